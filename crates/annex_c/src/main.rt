@@ -1,0 +1,63 @@
+// Solves the example of the ICD's Annex C: 15 pages off the air give the message, and the message gives the 15 pages again.
+mod pages;
+
+use libc::STDOUT_FILENO;
+use pagecode::Answer;
+use pages::CONTENTS;
+use pages::NUMBERS;
+
+fn wide(x: u8) -> u64 {
+    x as u64
+}
+
+// Prints octets in hexadecimal, on a line.
+fn print_octets(octets: &[u8]) {
+    let mut i: usize = 0;
+    while i < octets.len() {
+        io::print_hex(STDOUT_FILENO, wide(octets[i]), 2);
+        i += 1;
+    }
+    io::write_all(STDOUT_FILENO, b"\n");
+}
+
+// Whether the message's page with this number has these contents. The example's pages have status 0 and message number 15.
+fn has_page(message: &[u8], number: u64, contents: &[u8]) -> bool {
+    let mut page = [0u8; 56];
+    let answer = pagecode::encode_page(message, 0, 15, number, &mut page);
+    let Answer::Good = answer else {
+        return false;
+    };
+    check::same(&page[3..], contents)
+}
+
+fn main() {
+    let contents = CONTENTS;
+    let numbers = NUMBERS;
+    let mut message = [0u8; 1696];
+    let answer = pagecode::solve(&contents, &numbers, &mut message);
+    let Answer::Good = answer else {
+        io::write_all(STDOUT_FILENO, b"refused\n");
+        return;
+    };
+    io::write_all(
+        STDOUT_FILENO,
+        b"The message of 15 pages that Annex C of the HAS SIS ICD sends:\n",
+    );
+    let mut i: usize = 0;
+    let mut same: usize = 0;
+    while i < 15 {
+        let start = i * 53;
+        let end = start + 53;
+        print_octets(&message[start..end]);
+        if has_page(&message[..795], numbers[i], &contents[start..end]) {
+            same += 1;
+        }
+        i += 1;
+    }
+    if same == 15 {
+        io::write_all(
+            STDOUT_FILENO,
+            b"Encoded again at its 15 page numbers: the same pages.\n",
+        );
+    }
+}

@@ -1,0 +1,37 @@
+-- The field
+mod Xor
+mod Linear
+mod Laws
+mod Tables
+mod Power
+-- The code
+mod Polynomials
+mod Distance
+mod Roots
+mod Generator
+mod Linearity
+-- A column has one solution
+mod Listed
+mod Tests
+mod LegalNumbers
+mod Unique
+mod Kernel
+mod Entries
+mod Exists
+-- Loops
+mod Fill
+mod Stored
+mod Partial
+mod Walk
+-- The functions
+mod Division
+mod Rows
+mod Content
+mod Cells
+mod Steps
+mod Solution
+mod SolvedPages
+-- What others may use
+pub mod Settled
+pub mod Promises
+pub mod Worked

@@ -1,0 +1,9 @@
+pub mod Field
+pub mod Code
+pub mod Table42
+pub mod Page
+pub mod Matrix
+pub mod Answer
+pub mod Encode
+pub mod Solve
+pub mod System
