@@ -20,8 +20,8 @@ use Rattle.pagecode.specs.Field.{_⊕_, _⊗_, Octets}
 use Rattle.pagecode.specs.Code.{plus, scale}
 use Rattle.pagecode.specs.System.{cell}
 use Rattle.pagecode.proofs.Linear.{⊕-comm, ⊕-zero}
-use Rattle.pagecode.proofs.Laws.{⊗-comm}
-use Rattle.pagecode.proofs.Polynomials.{plus-get, scale-get, scale-length, plus-length, plus-even}
+use Rattle.pagecode.proofs.Pieces.{piece, piece-length, piece-get}
+use Rattle.pagecode.proofs.Polynomials.{plus-get, scale-get, scale-length, plus-length}
 
 -- ---- a cell is in the square or in the right sides
 module _ (n : List (List ℕ)) (s : List ℕ) (r c : ℕ) where
@@ -46,14 +46,6 @@ cell-octets n s o p r c = pick (decLt c 32)
     pick : Dec (c < 32) → cell n s r c < 256
     pick (yes l) = omega (arith, cell-low n s r c l, o r c)
     pick (no d) = omega (arith, cell-high n s r c (omega arith), p (r * 53 + (c - 32)))
-
--- ---- a row plus f times another
-module _ (a b : List ℕ) (f : ℕ) where
-  pub more-get : (j m : ℕ) → m ≡ getD b j 0 ⊗ f → getD a j 0 ⊕ m ≡ getD (plus a (scale f b)) j 0
-  more-get j m e = ap (λ (x : ℕ). getD a j 0 ⊕ x) (e ∙ ⊗-comm (getD b j 0) f ∙ sym (scale-get f b j)) ∙ sym (plus-get a (scale f b) j)
-
-  pub more-length : length a ≡ length b → length (plus a (scale f b)) ≡ length a
-  more-length e = plus-even a (scale f b) (e ∙ sym (scale-length f b))
 
 -- ---- a list to which another is added from a place on
 plus-drop : (u v : List ℕ) (m : ℕ) → length u ≤ m → drop m (plus u v) ≡ drop m v
@@ -103,16 +95,6 @@ pub record Added (r f : ℕ) (x : ℕ → ℕ) (E F : ℕ → ℕ → ℕ) : Typ
   pub here : (c : ℕ) → c < 85 → F r c ≡ E r c ⊕ f ⊗ x c
   pub there : (a c : ℕ) → a ≢ r → c < 85 → F a c ≡ E a c
 
--- a row of the right sides
-abbrev pub side : List ℕ → ℕ → List ℕ
-side s r = take 53 (drop (r * 53) s)
-
-pub side-get : (s : List ℕ) (r j : ℕ) → j < 53 → getD (side s r) j 0 ≡ getD s (r * 53 + j) 0
-side-get s r j h = getD-take 53 (drop (r * 53) s) j 0 h ∙ getD-drop (r * 53) s j 0
-
-pub side-length : (s : List ℕ) (r : ℕ) → r * 53 + 53 ≤ length s → length (side s r) ≡ 53
-side-length s r h = omega (arith, length-take 53 (drop (r * 53) s), length-drop (r * 53) s)
-
 -- the right sides, of whose rows row r takes f times y
 abbrev pub moreSide : List ℕ → ℕ → ℕ → List ℕ → List ℕ
 moreSide s r f y = take (r * 53) s ++ plus (scale f y) (drop (r * 53) s)
@@ -123,23 +105,23 @@ moreRow n r f x = set n r (plus (getD n r []) (scale f x))
 
 -- the row that it takes is row p of m and t
 module _ (m n : List (List ℕ)) (t s : List ℕ) (p r f : ℕ) (square : r < length n) (from : p * 53 + 53 ≤ length t) (to : r * 53 + 53 ≤ length s) where
-  long : length (scale f (side t p)) ≡ 53
-  long = scale-length f (side t p) ∙ side-length t p from
+  long : length (scale f (piece t p)) ≡ 53
+  long = scale-length f (piece t p) ∙ piece-length t p from
 
-  pub added-length : length (moreSide s r f (side t p)) ≡ length s
-  added-length = add-length s (scale f (side t p)) (r * 53) (omega (arith, long))
+  pub added-length : length (moreSide s r f (piece t p)) ≡ length s
+  added-length = add-length s (scale f (piece t p)) (r * 53) (omega (arith, long))
 
-  pub added-drop : (k : ℕ) → r < k → drop (k * 53) (moreSide s r f (side t p)) ≡ drop (k * 53) s
-  added-drop k l = add-drop s (scale f (side t p)) (r * 53) (omega (arith, long)) (k * 53) (omega (arith, long))
+  pub added-drop : (k : ℕ) → r < k → drop (k * 53) (moreSide s r f (piece t p)) ≡ drop (k * 53) s
+  added-drop k l = add-drop s (scale f (piece t p)) (r * 53) (omega (arith, long)) (k * 53) (omega (arith, long))
 
-  pub added : Added r f (cell m t p) (cell n s) (cell (moreRow n r f (getD m p [])) (moreSide s r f (side t p)))
+  pub added : Added r f (cell m t p) (cell n s) (cell (moreRow n r f (getD m p [])) (moreSide s r f (piece t p)))
   added = record { here = λ c h. here′ c h (decLt c 32); there = λ a c d h. there′ a c d h (decLt c 32) (decLt a r) }
     where
       N : List (List ℕ)
       N = moreRow n r f (getD m p [])
 
       S : List ℕ
-      S = moreSide s r f (side t p)
+      S = moreSide s r f (piece t p)
 
       here′ : (c : ℕ) → c < 85 → Dec (c < 32) → cell N S r c ≡ cell n s r c ⊕ f ⊗ cell m t p c
       here′ c h (yes l) =
@@ -147,15 +129,15 @@ module _ (m n : List (List ℕ)) (t s : List ℕ) (p r f : ℕ) (square : r < le
           ∙ plus-get (getD n r []) (scale f (getD m p [])) c
           ∙ ap₂ _⊕_ (sym (cell-low n s r c l)) (scale-get f (getD m p []) c ∙ ap (λ (x : ℕ). f ⊗ x) (sym (cell-low m t p c l)))
       here′ c h (no d) =
-          cell-high N S r c (omega arith) ∙ add-from s (scale f (side t p)) (r * 53) (omega (arith, long)) (c - 32)
+          cell-high N S r c (omega arith) ∙ add-from s (scale f (piece t p)) (r * 53) (omega (arith, long)) (c - 32)
           ∙ ap₂ _⊕_ (sym (cell-high n s r c (omega arith)))
-          (scale-get f (side t p) (c - 32)
-          ∙ ap (λ (x : ℕ). f ⊗ x) (side-get t p (c - 32) (omega arith) ∙ sym (cell-high m t p c (omega arith))))
+          (scale-get f (piece t p) (c - 32)
+          ∙ ap (λ (x : ℕ). f ⊗ x) (piece-get t p (c - 32) (omega arith) ∙ sym (cell-high m t p c (omega arith))))
 
       there′ : (a c : ℕ) → a ≢ r → c < 85 → Dec (c < 32) → Dec (a < r) → cell N S a c ≡ cell n s a c
       there′ a c d h (yes l) b =
           cell-low N S a c l ∙ ap (λ (x : List ℕ). getD x c 0) (getD-set-other n r a (plus (getD n r []) (scale f (getD m p []))) [] d) ∙ sym (cell-low n s a c l)
       there′ a c d h (no l) (yes b) =
-          cell-high N S a c (omega arith) ∙ add-below s (scale f (side t p)) (r * 53) (omega (arith, long)) (a * 53 + (c - 32)) (omega arith) ∙ sym (cell-high n s a c (omega arith))
+          cell-high N S a c (omega arith) ∙ add-below s (scale f (piece t p)) (r * 53) (omega (arith, long)) (a * 53 + (c - 32)) (omega arith) ∙ sym (cell-high n s a c (omega arith))
       there′ a c d h (no l) (no b) =
-          cell-high N S a c (omega arith) ∙ add-above s (scale f (side t p)) (r * 53) (omega (arith, long)) (a * 53 + (c - 32)) (omega (arith, long)) ∙ sym (cell-high n s a c (omega arith))
+          cell-high N S a c (omega arith) ∙ add-above s (scale f (piece t p)) (r * 53) (omega (arith, long)) (a * 53 + (c - 32)) (omega (arith, long)) ∙ sym (cell-high n s a c (omega arith))

@@ -5,42 +5,16 @@ use mathlib.Core.List.{List, [], _∷_, _++_, append-nil}
 use Prim.Native.Nat.{ℕ, suc, _+_, _-_, _*_, _/_, _%_, _≤_, _<_}
 use native.Mathlib.Numerals.{add-one}
 use native.Mathlib.Omega.{arith}
-use lib.ListN.{length, getD, set, take, drop, replicate, length-take, length-replicate, getD-replicate, drop-of-length-le}
-use lib.Seq.{getD-take, getD-drop, ext-getD, take-all, paste, paste-suc}
+use lib.ListN.{length, getD, set, replicate, length-replicate, getD-replicate, drop-of-length-le}
+use lib.Seq.{ext-getD, take-all, paste, paste-suc}
 use Rattle.pagecode.specs.Field.{_⊕_, _⊗_, Octets}
-use Rattle.pagecode.specs.Code.{plus, scale}
 use Rattle.pagecode.specs.Page.{column, pageOctet, content, Header, headerBits, headerOctets}
 use Rattle.pagecode.specs.Matrix.{matrixEntry, matrixRow}
 use Rattle.pagecode.specs.System.{sum}
-use Rattle.pagecode.proofs.Laws.{⊗-comm}
-use Rattle.pagecode.proofs.Polynomials.{plus-max, scale-length, plus-get, scale-get}
 use Rattle.pagecode.proofs.Listed.{listed-length, listed-get}
 use Rattle.pagecode.proofs.Entries.{row-get, page-sum}
-use Rattle.pagecode.proofs.Fill.{Filled, fill-next, fill-done}
-
--- ---- f times page i + 1 of the message m, added to s
-abbrev pub added : List ℕ → List ℕ → ℕ → ℕ → List ℕ
-added s m i f = plus s (scale f (take 53 (drop (i * 53) m)))
-
-added-length : (s m : List ℕ) (i f : ℕ) → length s ≡ 53 → length (added s m i f) ≡ 53
-added-length s m i f h =
-    omega (arith, plus-max s (scale f (take 53 (drop (i * 53) m))), scale-length f (take 53 (drop (i * 53) m)), length-take 53 (drop (i * 53) m))
-
-added-get : (s m : List ℕ) (i f j : ℕ) → j < 53 → getD (added s m i f) j 0 ≡ getD s j 0 ⊕ f ⊗ getD m (i * 53 + j) 0
-added-get s m i f j h =
-    plus-get s (scale f (take 53 (drop (i * 53) m))) j
-    ∙ ap (λ (x : ℕ). getD s j 0 ⊕ x)
-    (scale-get f (take 53 (drop (i * 53) m)) j ∙ ap (λ (x : ℕ). f ⊗ x) (getD-take 53 (drop (i * 53) m) j 0 h ∙ getD-drop (i * 53) m j 0))
-
--- a turn of the loop that fills it in
-pub added-next : (s m v : List ℕ) (i f j x : ℕ) → length s ≡ 53 → j < 53 → Filled 0 s (added s m i f) v j → x ≡ getD m (i * 53 + j) 0 ⊗ f
-    → Filled 0 s (added s m i f) (set v j (getD s j 0 ⊕ x)) (j + 1)
-added-next s m v i f j x l h e g =
-    fill-next 0 s (added s m i f) v j (getD s j 0 ⊕ x) e (ap (λ (y : ℕ). getD s j 0 ⊕ y) (g ∙ ⊗-comm (getD m (i * 53 + j) 0) f) ∙ sym (added-get s m i f j h)) (omega arith)
-    (omega (arith, added-length s m i f l))
-
-pub added-done : (s m v : List ℕ) (i f j : ℕ) → length s ≡ 53 → 53 ≤ j → Filled 0 s (added s m i f) v j → v ≡ added s m i f
-added-done s m v i f j l h e = fill-done 0 s (added s m i f) v j e (omega arith) (omega (arith, added-length s m i f l))
+use Rattle.pagecode.proofs.Pieces.{piece, piece-length, piece-get}
+use Rattle.pagecode.proofs.Multiples.{more, more-get, more-length}
 
 -- ---- the content of page p
 pub content-length : (k : ℕ) (m : List ℕ) (p : ℕ) → length (content k m p) ≡ 53
@@ -66,15 +40,19 @@ module _ (m : List ℕ) (octets : Octets m) (p : ℕ) where
   unfolding sum
   content-none = content-is 0 (replicate 53 0) (omega arith) (length-replicate {A = ℕ} 53 0) (λ j b. getD-replicate {A = ℕ} 53 j 0 0 b)
 
-  pub content-next : (c row : List ℕ) (i : ℕ) → i < 32 → c ≡ content i m p → row ≡ matrixRow p → added c m i (getD row i 0) ≡ content (i + 1) m p
+  pub content-next : (c row : List ℕ) (i : ℕ) → i < 32 → i * 53 + 53 ≤ length m → c ≡ content i m p → row ≡ matrixRow p → more c (piece m i) (getD row i 0) ≡ content (i + 1) m p
   unfolding sum
-  content-next c row i h e r =
-      content-is (suc i) (added c m i f) (omega arith) (added-length c m i f (ap length e ∙ content-length i m p))
-      (λ j b. added-get c m i f j b ∙ ap₂ (λ (x y : ℕ). x ⊕ y ⊗ getD m (i * 53 + j) 0) (ap (λ (l : List ℕ). getD l j 0) e ∙ content-get i j (omega arith) b) g)
+  content-next c row i h l e r =
+      content-is (suc i) (more c (piece m i) f) (omega arith) (more-length c (piece m i) f (long ∙ sym (piece-length m i l)) ∙ long)
+      (λ j b. more-get c (piece m i) f j ∙ ap₂ (λ (x y : ℕ). x ⊕ f ⊗ y) (ap (λ (l : List ℕ). getD l j 0) e ∙ content-get i j (omega arith) b) (piece-get m i j b)
+      ∙ ap (λ (y : ℕ). sum i (term m p j) ⊕ y ⊗ getD m (i * 53 + j) 0) g)
       ∙ ap (λ (k : ℕ). content k m p) (sym (add-one i))
     where
       f : ℕ
       f = getD row i 0
+
+      long : length c ≡ 53
+      long = ap length e ∙ content-length i m p
 
       g : getD row i 0 ≡ matrixEntry p i
       g = ap (λ (l : List ℕ). getD l i 0) r ∙ row-get p i h

@@ -20,6 +20,8 @@ mod Entries
 mod Exists
 -- Loops
 mod Fill
+mod Multiples
+mod Pieces
 mod Stored
 mod Partial
 mod Walk

@@ -9,13 +9,14 @@ use native.Mathlib.Decide.{ℕ-discrete}
 use native.Mathlib.Omega.{arith}
 use lib.Dec.{eqb}
 use lib.ListN.{length, drop}
+use Rattle.refusal.proofs.OneCase.{one-case, no-nought}
 use Rattle.refusal.specs.declared.Refusal.{Refusal}
 use Rattle.refusal.specs.declared.Refusal.the-variants.{Length, Out, PageNumber, Repeat}
 use Rattle.pagecode.specs.declared.Answer.{Answer}
 use Rattle.pagecode.specs.declared.Answer.the-variants.{Good, Refused}
 use Rattle.pagecode.specs.Field.{_⊗_, Logarithm, Inverse}
 use Rattle.pagecode.specs.Page.{encodedPage}
-use Rattle.pagecode.specs.Answer.{check, whenGood}
+use Rattle.pagecode.specs.Answer.{answerNumber, check, whenGood}
 use Rattle.pagecode.specs.Encode.{arePages, Encoded}
 use Rattle.pagecode.specs.Solve.{allLegal, different, solveAnswer, SolvedBuffer, Solved}
 use Rattle.pagecode.proofs.Laws.{⊗-assoc, ⊗-comm, ⊗-one, one-⊗}
@@ -70,3 +71,10 @@ pub one-solution : (contents numbers before : List ℕ) (r s : Answer) (a b : Li
 one-solution contents numbers before r s a b x y =
     let e : r ≡ s = x .answered ∙ sym (y .answered) in
     (e, one-buffer contents numbers before r a b (x .answered) (x .buffer) (subst (λ (t : Answer). SolvedBuffer t contents numbers before b) (sym e) (y .buffer)))
+
+-- an answer is known by its number
+pub one-answer : (a b : Answer) → answerNumber a ≡ answerNumber b → a ≡ b
+one-answer Good Good e = refl
+one-answer Good (Refused g) e = absurd (no-nought g (sym e))
+one-answer (Refused f) Good e = absurd (no-nought f e)
+one-answer (Refused f) (Refused g) e = ap Refused (one-case f g e)

@@ -21,7 +21,8 @@ use Rattle.pagecode.proofs.Laws.{⊗-zero, zero-⊗, one-⊗, ⊗-one}
 use Rattle.pagecode.proofs.Polynomials.{plus-octets, scale-octets}
 use Rattle.pagecode.proofs.Distance.{same}
 use Rattle.pagecode.proofs.Kernel.{sum-cong, sel, sel-yes, sel-no, clear, start, advance, stuck, solved, vec, vec-low, vec-one, vec-none, vec-lt}
-use Rattle.pagecode.proofs.Cells.{cell-low, cell-high, cell-octets, Added, side, moreSide, moreRow, added, added-length, added-drop}
+use Rattle.pagecode.proofs.Pieces.{piece}
+use Rattle.pagecode.proofs.Cells.{cell-low, cell-high, cell-octets, Added, moreSide, moreRow, added, added-length, added-drop}
 
 -- ---- a row with an entry is looked for: rows q to r - 1 have none
 pub record Seeking (k q r : ℕ) (F : ℕ → ℕ → ℕ) : Type 0 where
@@ -88,7 +89,7 @@ pub record SweepLoop (k q : ℕ) (n₀ : List (List ℕ)) (s₀ : List ℕ) (n :
 
 module _ (k q : ℕ) (n₀ : List (List ℕ)) (s₀ : List ℕ) (qk : q < k) (k32 : k ≤ 32) (long : length s₀ ≡ 1696) where
   pub sweep-turn : (n : List (List ℕ)) (s : List ℕ) (r f : ℕ) (x y t : List ℕ) → r < k → f ≡ cond (eqb r q) 0 (getD (getD n r []) q 0)
-      → y ≡ side s₀ q → x ≡ plus (getD n r []) (scale f (getD n₀ q [])) → t ≡ moreSide s r f y → SweepLoop k q n₀ s₀ n s r → SweepLoop k q n₀ s₀ (set n r x) t (r + 1)
+      → y ≡ piece s₀ q → x ≡ plus (getD n r []) (scale f (getD n₀ q [])) → t ≡ moreSide s r f y → SweepLoop k q n₀ s₀ n s r → SweepLoop k q n₀ s₀ (set n r x) t (r + 1)
   sweep-turn n s r f x y t l ef ey ex et i = rw (ex, et ∙ ap (moreSide s r f) ey) (record {
     cells = sweep-next q r f (cell n₀ s₀) (cell n s) (cell N S) (omega arith) (ef ∙ ap (cond (eqb r q) 0) (sym (cell-low n s r q (omega arith))))
         (added n₀ n s₀ s q r f (omega (arith, i .rows)) (omega arith) (omega (arith, i .long))) (i .cells);
@@ -102,7 +103,7 @@ module _ (k q : ℕ) (n₀ : List (List ℕ)) (s₀ : List ℕ) (qk : q < k) (k3
       N = moreRow n r f (getD n₀ q [])
 
       S : List ℕ
-      S = moreSide s r f (side s₀ q)
+      S = moreSide s r f (piece s₀ q)
 
 -- ---- a column is cleared
 -- row q takes row p, unless it is that row
@@ -186,8 +187,8 @@ set-octets n q x h o p r = pick (ℕ-discrete r q)
 -- Then they take i + 1 times themselves, the right sides of the row being y′: row q is x′, and the right sides t′
 module _ (k q p e i : ℕ) (n : List (List ℕ)) (s x y t x′ y′ t′ : List ℕ) (qk : q < k) (k32 : k ≤ 32) (rows : length n ≡ 32) (long : length s ≡ 1696)
     (at : Pivot k q p (cell n [])) (times : e ≡ cond (eqb p q) 0 1)
-    (ex : x ≡ plus (getD n q []) (scale e (getD n p []))) (ey : y ≡ side s p) (et : t ≡ moreSide s q e y)
-    (ex′ : x′ ≡ plus x (scale (i ⊕ 1) x)) (ey′ : y′ ≡ side t q) (et′ : t′ ≡ moreSide t q (i ⊕ 1) y′) where
+    (ex : x ≡ plus (getD n q []) (scale e (getD n p []))) (ey : y ≡ piece s p) (et : t ≡ moreSide s q e y)
+    (ex′ : x′ ≡ plus x (scale (i ⊕ 1) x)) (ey′ : y′ ≡ piece t q) (et′ : t′ ≡ moreSide t q (i ⊕ 1) y′) where
   abbrev N : List (List ℕ)
   N = set n q x
 

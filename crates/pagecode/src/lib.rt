@@ -1,4 +1,7 @@
 // The lower layer (document 01, The page, and The page code): a page of a message is encoded, and pages are solved.
+ghost use mathlib.Core.Path.{_≡_};
+ghost use Rattle.pagecode.specs.Answer.{answerNumber};
+
 mod elimination;
 mod encoding;
 pub mod field;
@@ -16,4 +19,14 @@ pub use solving::solve;
 pub enum Answer {
     Good,
     Refused(Refusal),
+}
+
+// The number that document 01 gives an answer: that of its refusal, or 0.
+pub fn answer_number(answer: Answer) -> u64
+    ensures { λ n. ⌜ n ≡ answerNumber answer ⌝ }
+{
+    match answer {
+        Answer::Good => 0,
+        Answer::Refused(r) => refusal::number(r),
+    }
 }

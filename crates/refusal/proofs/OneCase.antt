@@ -1,7 +1,9 @@
 -- A number names one case only: the case can be read off its number again.
 use mathlib.Core.List.{List, [], _∷_}
+use mathlib.Core.Logic.{_≢_}
 use mathlib.Core.Path.{_≡_, refl, sym, ap, _∙_}
 use Prim.Native.Nat.{ℕ, _-_}
+use native.Mathlib.Omega.{arith}
 use lib.ListN.{getD}
 use Rattle.refusal.specs.Number.{numberOf}
 use Rattle.refusal.specs.declared.Refusal.{Refusal}
@@ -46,3 +48,10 @@ back Long = refl
 
 pub one-case : (a b : Refusal) → numberOf a ≡ numberOf b → a ≡ b
 one-case a b e = sym (back a) ∙ ap caseOf e ∙ back b
+
+-- 0 is no refusal's number
+pub no-nought : (r : Refusal) → numberOf r ≢ 0
+unfolding caseOf
+no-nought r e =
+    let one : numberOf r ≡ 1 = ap numberOf (sym (back r) ∙ ap caseOf e) in
+    omega arith

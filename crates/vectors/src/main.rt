@@ -6,18 +6,9 @@ mod annex_d;
 
 use annex_d::INFORMATION;
 use libc::STDOUT_FILENO;
-use pagecode::Answer;
 
 fn wide(x: u8) -> u64 {
     x as u64
-}
-
-// A number of the paper for an answer: 0 where nothing is refused.
-fn number_of(answer: Answer) -> u64 {
-    match answer {
-        Answer::Good => 0,
-        Answer::Refused(r) => refusal::number(r),
-    }
 }
 
 fn print_pair(n: u64, octet: u8) {
@@ -92,7 +83,13 @@ fn encode_number(n: usize, status: u64, number: u64, page: u64, room: usize) -> 
 {
     let message = [7u8; 106];
     let mut out = [0u8; 57];
-    number_of(pagecode::encode_page(&message[..n], status, number, page, &mut out[..room]))
+    pagecode::answer_number(pagecode::encode_page(
+        &message[..n],
+        status,
+        number,
+        page,
+        &mut out[..room],
+    ))
 }
 
 fn print_encode_refusals() {
@@ -118,7 +115,7 @@ fn solve_number(n: usize, a: u64, b: u64, room: usize) -> u64
     let contents = [7u8; 106];
     let numbers = [a, b];
     let mut out = [0u8; 1697];
-    number_of(pagecode::solve(&contents[..n], &numbers, &mut out[..room]))
+    pagecode::answer_number(pagecode::solve(&contents[..n], &numbers, &mut out[..room]))
 }
 
 fn print_solve_refusals() {

@@ -21,8 +21,8 @@ slice-aggregate-encode-page-2 c = sym (length-take-le _ _ (omega arith))
 encode-page-requires : tie.Need-encode-page-requires
 encode-page-requires c κs = search needs
 
-number-of-requires : tie.Need-number-of-requires
-number-of-requires c κs = search needs
+answer-number-requires : tie.Need-answer-number-requires
+answer-number-requires c κs = search needs
 
 returns : tie.Need-returns
 returns c = search needs
@@ -36,5 +36,5 @@ encode-number-spec =
     array-borrow-prefix-out
     slice-aggregate-encode-page-2
     encode-page-requires
-    number-of-requires
+    answer-number-requires
     returns)

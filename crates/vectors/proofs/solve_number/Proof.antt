@@ -24,8 +24,8 @@ slice-aggregate-solve-3 c = sym (length-take-le _ _ (omega arith))
 solve-requires : tie.Need-solve-requires
 solve-requires c κs = search needs
 
-number-of-requires : tie.Need-number-of-requires
-number-of-requires c κs = search needs
+answer-number-requires : tie.Need-answer-number-requires
+answer-number-requires c κs = search needs
 
 returns : tie.Need-returns
 returns c = search needs
@@ -40,5 +40,5 @@ solve-number-spec =
     array-borrow-prefix-out
     slice-aggregate-solve-3
     solve-requires
-    number-of-requires
+    answer-number-requires
     returns)

@@ -5,12 +5,12 @@ use native.Mathlib.Omega.{arith}
 use lib.ListN.{getD, replicate}
 use borrow.Author.Needs.{needs}
 use Rattle.pagecode.proofs.Fill.{Filled, fill-next, fill-done}
-use Rattle.pagecode.proofs.Cells.{side, side-get, side-length}
+use Rattle.pagecode.proofs.Pieces.{piece, piece-get, piece-length}
 use Rattle.pagecode.proofs.elimination.side_of.Statement.{statement}
 use Rattle.pagecode.proofs.elimination.side_of.Tie as tie
 
 abbrev Inv-loop : tie.InvT-loop
-Inv-loop sides r s₀ j₀ s j = Filled 0 s₀ (side sides r) s j × (j ≤ 53)
+Inv-loop sides r s₀ j₀ s j = Filled 0 s₀ (piece sides r) s j × (j ≤ 53)
 
 abbrev μ-loop : tie.MeasureT-loop
 μ-loop sides r s₀ j₀ s j = 53 - j
@@ -40,16 +40,16 @@ loop-again : tie.Need-loop-again Inv-loop μ-loop
 loop-again c =
     let a = c .before .before .before .args in
     let j = c .before .before .loop .j in (
-      fill-next 0 (replicate 53 0) (side (a .sides .now) (a .r)) (c .before .before .loop .s) j (getD (a .sides .now) (a .r * 53 + j) 0) (c .before .before .loop .inv .0)
-          (sym (side-get (a .sides .now) (a .r) j (omega arith))) (omega arith) (omega (arith, side-length (a .sides .now) (a .r) (omega arith))),
+      fill-next 0 (replicate 53 0) (piece (a .sides .now) (a .r)) (c .before .before .loop .s) j (getD (a .sides .now) (a .r * 53 + j) 0) (c .before .before .loop .inv .0)
+          (sym (piece-get (a .sides .now) (a .r) j (omega arith))) (omega arith) (omega (arith, piece-length (a .sides .now) (a .r) (omega arith))),
       search needs,
     )
 
 returns : tie.Need-returns Inv-loop μ-loop
 returns c =
     let a = c .before .before .args in
-    fill-done 0 (replicate 53 0) (side (a .sides .now) (a .r)) (c .before .loop .s) (c .before .loop .j) (c .before .loop .inv .0)
-    (omega arith) (omega (arith, side-length (a .sides .now) (a .r) (omega arith)))
+    fill-done 0 (replicate 53 0) (piece (a .sides .now) (a .r)) (c .before .loop .s) (c .before .loop .j) (c .before .loop .inv .0)
+    (omega arith) (omega (arith, piece-length (a .sides .now) (a .r) (omega arith)))
 
 pub side-of-spec : {M : Type 1} → statement M
 side-of-spec =

@@ -1,16 +1,18 @@
 -- The loop fills the sum from the front: a turn sets its next octet, the old one plus the product.
-use mathlib.Core.Path.{refl}
+use mathlib.Core.Path.{_≡_, refl, sym, ap, _∙_}
 use mathlib.Core.List.{List}
 use Prim.Native.Nat.{ℕ, _-_, _≤_}
+use lib.ListN.{length}
 use borrow.Author.Needs.{needs}
-use Rattle.pagecode.specs.Field.{_⊕_}
+use Rattle.pagecode.specs.Field.{_⊕_, _⊗_}
 use Rattle.pagecode.proofs.Fill.{Filled}
-use Rattle.pagecode.proofs.Content.{added, added-next, added-done}
+use Rattle.pagecode.proofs.Pieces.{piece, piece-length, piece-get}
+use Rattle.pagecode.proofs.Multiples.{more, more-next, more-done}
 use Rattle.pagecode.proofs.page.add_page.Statement.{statement}
 use Rattle.pagecode.proofs.page.add_page.Tie as tie
 
 record Inv (d m : List ℕ) (i f : ℕ) (s : List ℕ) (j : ℕ) : Type 0 where
-  is : Filled 0 d (added d m i f) s j
+  is : Filled 0 d (more d (piece m i) f) s j
   upto : j ≤ 53
 
 abbrev Inv-loop : tie.InvT-loop
@@ -51,8 +53,12 @@ unfolding _⊕_
 loop-again c =
     let a = c .before .before .before .before .before .args in
     let l = c .before .before .before .loop in
+    let m = a .message .now in
+    let long : length (piece m (a .i)) ≡ 53 = piece-length m (a .i) (search needs) in
     record {
-      is = added-next (a .t1) (a .message .now) (l .s) (a .i) (a .f) (l .j) (c .product .result) (search needs) (search needs) (l .inv .is) (c .product .ensures);
+      is =
+          more-next (a .t1) (piece m (a .i)) (a .f) (search needs) (l .s) (l .j) (c .product .result) (search needs)
+          (c .product .ensures ∙ ap (λ (x : ℕ). x ⊗ a .f) (sym (piece-get m (a .i) (l .j) (search needs)))) (l .inv .is);
       upto = search needs;
     }
 
@@ -60,7 +66,9 @@ returns : tie.Need-returns Inv-loop μ-loop
 returns c =
     let a = c .before .before .before .args in
     let l = c .before .loop in
-    added-done (a .t1) (a .message .now) (l .s) (a .i) (a .f) (l .j) (search needs) (search needs) (l .inv .is)
+    let m = a .message .now in
+    let long : length (piece m (a .i)) ≡ 53 = piece-length m (a .i) (search needs) in
+    more-done (a .t1) (piece m (a .i)) (a .f) (search needs) (l .s) (l .j) (search needs) (l .inv .is)
 
 pub add-page-spec : {M : Type 1} → statement M
 add-page-spec =

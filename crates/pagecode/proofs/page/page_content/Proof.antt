@@ -51,7 +51,7 @@ loop-again c =
     let row = c .before .before .before .matrix-row in
     let l = c .before .before .loop in
     record {
-      is = c .add-page .ensures ∙ content-next (a .message .now) o (a .p) (l .c) (row .result) (l .i) (search needs) (l .inv .is) (row .ensures);
+      is = c .add-page .ensures ∙ content-next (a .message .now) o (a .p) (l .c) (row .result) (l .i) (search needs) (search needs) (l .inv .is) (row .ensures);
       upto = search needs;
     }
 
