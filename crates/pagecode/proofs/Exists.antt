@@ -1,4 +1,5 @@
--- For k legal pages with any octets there is a column of k octets that has them.
+-- For k different legal numbers and any octets there is a column of k octets whose pages have them.
+-- Elimination ends in it: a column without a pivot would give a column other than 0 whose pages are all 0, against uniqueness.
 use mathlib.Core.Path.{_≡_, refl, sym, ap, ap₂, _∙_, subst}
 use mathlib.Core.List.{List}
 use mathlib.Core.Logic.{_≢_, _⊎_, inl, inr}

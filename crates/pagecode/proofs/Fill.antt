@@ -8,11 +8,11 @@ use native.Mathlib.Omega.{arith}
 use lib.ListN.{length, getD, set, take, drop, drop-of-length-le}
 use lib.Seq.{take-all}
 
-module _ {A : Type 0} (z : A) where
-  -- the list that is filled, whose old elements are d and whose new ones are s, after i turns
-  abbrev pub Filled : List A → List A → List A → ℕ → Type 0
-  Filled d s v i = v ≡ take i s ++ drop i d
+-- v is the list that is filled, whose old elements are d and whose new ones are s, after i turns
+abbrev pub Filled : {A : Type 0} → List A → List A → List A → ℕ → Type 0
+Filled d s v i = v ≡ take i s ++ drop i d
 
+module _ {A : Type 0} (z : A) where
   pub fill-next : (d s v : List A) (i : ℕ) (x : A) → Filled d s v i → x ≡ getD s i z → i < length d → i < length s → Filled d s (set v i x) (i + 1)
   fill-next d s v i x e g h l = ap₂ (λ (u : List A) (y : A). set u i y) e g ∙ go d s i h l ∙ ap (λ (n : ℕ). take n s ++ drop n d) (sym (add-one i))
     where

@@ -1,8 +1,9 @@
--- Elimination, on k rows of n numbers, E r c in row r at column c. Each step keeps the kernel, read backwards: what the new rows
--- send to 0 the old rows do. The right sides are columns too: in this field A x = b is A x + b = 0.
+-- Elimination on k rows of n numbers, E r c in row r at column c: each step keeps the kernel, read backwards, so that what the new rows send
+-- to 0 the old rows do. With q columns cleared, another column tells a vector that the rows send to 0.
 use mathlib.Core.Path.{_≡_, refl, sym, ap, ap₂, _∙_}
 use mathlib.Core.Logic.{_≢_}
-use Prim.Native.Nat.{ℕ, zero, suc, _≤_, _<_}
+use Prim.Native.Nat.{ℕ, zero, suc, _+_, _≤_, _<_}
+use native.Mathlib.Nat.{add-zero, add-suc}
 use native.Mathlib.Decide.{ℕ-discrete, decLt}
 use native.Mathlib.Omega.{arith}
 use Rattle.pagecode.specs.Field.{_⊕_, _⊗_}
@@ -46,6 +47,21 @@ sum-one (suc n) f i l h = pick (λ k. sum-one n f i k (λ j m. h j (omega arith)
     pick : (i < n → sum n f ≡ f i) → Dec (i ≡ n) → sum n f ⊕ f n ≡ f i
     pick ih (yes e) = ap₂ _⊕_ (sum-zero n f (λ j m. h j (omega arith) (omega arith))) (ap f (sym e)) ∙ zero-⊕ (f i)
     pick ih (no d) = ap₂ _⊕_ (ih (omega arith)) (h n (omega arith) (omega arith)) ∙ ⊕-zero (f i)
+
+-- ---- terms from k on that are 0, but for one at b
+pub sum-cut : (k d : ℕ) (f : ℕ → ℕ) → ((j : ℕ) → k ≤ j → j < k + d → f j ≡ 0) → sum (k + d) f ≡ sum k f
+unfolding sum
+sum-cut k zero f h = ap (λ (n : ℕ). sum n f) (add-zero k)
+sum-cut k (suc d) f h = ap (λ (n : ℕ). sum n f) (add-suc k d) ∙ ap₂ _⊕_ (sum-cut k d f (λ j l m. h j l (omega arith))) (h (k + d) (omega arith) (omega arith)) ∙ ⊕-zero _
+
+pub sum-far : (k d b : ℕ) (f : ℕ → ℕ) → k ≤ b → b < k + d → ((j : ℕ) → k ≤ j → j < k + d → j ≢ b → f j ≡ 0) → sum (k + d) f ≡ sum k f ⊕ f b
+unfolding sum
+sum-far k zero b f l m h = absurd (omega arith)
+sum-far k (suc d) b f l m h = ap (λ (n : ℕ). sum n f) (add-suc k d) ∙ pick (λ i. sum-far k d b f l i (λ j u v. h j u (omega arith))) (ℕ-discrete b (k + d))
+  where
+    pick : (b < k + d → sum (k + d) f ≡ sum k f ⊕ f b) → Dec (b ≡ k + d) → sum (k + d) f ⊕ f (k + d) ≡ sum k f ⊕ f b
+    pick ih (yes i) = ap₂ _⊕_ (sum-cut k d f (λ j u v. h j u (omega arith) (omega arith))) (ap f (sym i))
+    pick ih (no n) = ap₂ _⊕_ (ih (omega arith)) (h (k + d) (omega arith) (omega arith) (omega arith)) ∙ ⊕-zero _
 
 -- ---- the kernel
 -- what a step may do to the rows: every y that the new ones kill the old ones kill

@@ -1,41 +1,17 @@
--- The laws of the product. Both sides are additive in each factor, so a law holds where it holds at the powers of two, which antt computes.
--- Assumes nothing.
+-- The laws of the product: it is commutative and associative, an octet, and has 0 and 1.
+-- Both sides of a law are additive in each factor, so it holds where it holds at the powers of two, which antt computes.
 use mathlib.Core.Path.{_≡_, refl, sym, ap, ap₂, _∙_, subst}
-use mathlib.Core.Bool.{Bool, true, false}
+use mathlib.Core.Bool.{Bool, true}
 use Prim.Native.Nat.{ℕ, zero, suc, _*_, _/_, _%_, _^_, _<_}
-use native.Mathlib.Nat.{zero-lt-suc, not-suc-le-zero, eq-or-lt-of-le, le-of-suc-le-suc, mod-lt, mod-eq-of-lt}
+use native.Mathlib.Nat.{zero-lt-suc, mod-lt, mod-eq-of-lt}
 use native.Mathlib.Numerals.{add-one}
 use native.Mathlib.Omega.{arith}
-use mathlib.Core.Logic.{_⊎_, inl, inr}
-use lib.Dec.{T, eqb, eqb→eq, ltb, ltb→lt, lit<}
+use lib.Dec.{eqb, ltb, lit<}
+use borrow.Author.Tests.{eqb-true, ltb-true}
 use lib.Pow.{field, mod-mod-pow}
 use Rattle.pagecode.specs.Field.{_⊕_, _⊗_, double, shiftAdd}
+use Rattle.pagecode.proofs.Everywhere.{all, below}
 use Rattle.pagecode.proofs.Linear.{agree, add-step, ⊗-add-l, ⊗-add-r, ⊕-self, ⊕-lt}
-
--- ---- a test at every number below n
-abbrev pub both : Bool → Bool → Bool
-both true b = b
-both false b = false
-
-pub both-left : (a b : Bool) → T (both a b) → T a
-both-left true b t = tt
-both-left false b t = t
-
-pub both-right : (a b : Bool) → T (both a b) → T b
-both-right true b t = t
-both-right false b t = absurd t
-
-abbrev pub all : ℕ → (ℕ → Bool) → Bool
-all zero f = true
-all (suc n) f = both (f n) (all n f)
-
-pub below : (n : ℕ) (f : ℕ → Bool) → T (all n f) → (i : ℕ) → i < n → T (f i)
-below zero f t i h = absurd (not-suc-le-zero h)
-below (suc n) f t i h = pick (below n f (both-right (f n) (all n f) t) i) (eq-or-lt-of-le (le-of-suc-le-suc h))
-  where
-    pick : (i < n → T (f i)) → (i ≡ n) ⊎ (i < n) → T (f i)
-    pick ih (inl e) = subst (λ (k : ℕ). T (f k)) (sym e) (both-left (f n) (all n f) t)
-    pick ih (inr l) = ih l
 
 -- ---- the product looks at the low eight bits alone
 low : (k a b : ℕ) → shiftAdd k (a % 2 ^ k) b ≡ shiftAdd k a b
@@ -63,13 +39,13 @@ comm-test : ℕ → ℕ → Bool
 unfolding _⊗_
 comm-test i j = eqb (2 ^ i ⊗ 2 ^ j) (2 ^ j ⊗ 2 ^ i)
 
-comm-table : T (all 8 (λ i. all 8 (comm-test i)))
+comm-table : all 8 (λ i. all 8 (comm-test i)) ≡ true
 unfolding comm-test
-comm-table = tt
+comm-table = refl
 
 comm-at : (i j : ℕ) → i < 8 → j < 8 → 2 ^ i ⊗ 2 ^ j ≡ 2 ^ j ⊗ 2 ^ i
 unfolding comm-test
-comm-at i j h k = eqb→eq (2 ^ i ⊗ 2 ^ j) (2 ^ j ⊗ 2 ^ i) (below 8 (comm-test i) (below 8 (λ m. all 8 (comm-test m)) comm-table i h) j k)
+comm-at i j h k = eqb-true (2 ^ i ⊗ 2 ^ j) (2 ^ j ⊗ 2 ^ i) (below 8 (comm-test i) (below 8 (λ m. all 8 (comm-test m)) comm-table i h) j k)
 
 comm-oct : (a b : ℕ) → a < 256 → b < 256 → a ⊗ b ≡ b ⊗ a
 comm-oct a b ha hb =
@@ -84,14 +60,14 @@ assoc-test : ℕ → ℕ → ℕ → Bool
 unfolding _⊗_
 assoc-test i j k = eqb (2 ^ i ⊗ 2 ^ j ⊗ 2 ^ k) (2 ^ i ⊗ (2 ^ j ⊗ 2 ^ k))
 
-assoc-table : T (all 8 (λ i. all 8 (λ j. all 8 (assoc-test i j))))
+assoc-table : all 8 (λ i. all 8 (λ j. all 8 (assoc-test i j))) ≡ true
 unfolding assoc-test
-assoc-table = tt
+assoc-table = refl
 
 assoc-at : (i j k : ℕ) → i < 8 → j < 8 → k < 8 → 2 ^ i ⊗ 2 ^ j ⊗ 2 ^ k ≡ 2 ^ i ⊗ (2 ^ j ⊗ 2 ^ k)
 unfolding assoc-test
 assoc-at i j k hi hj hk =
-    eqb→eq (2 ^ i ⊗ 2 ^ j ⊗ 2 ^ k) (2 ^ i ⊗ (2 ^ j ⊗ 2 ^ k))
+    eqb-true (2 ^ i ⊗ 2 ^ j ⊗ 2 ^ k) (2 ^ i ⊗ (2 ^ j ⊗ 2 ^ k))
     (below 8 (assoc-test i j) (below 8 (λ m. all 8 (assoc-test i m)) (below 8 (λ n. all 8 (λ m. all 8 (assoc-test n m))) assoc-table i hi) j hj) k hk)
 
 assoc-oct : (a b c : ℕ) → a < 256 → b < 256 → c < 256 → a ⊗ b ⊗ c ≡ a ⊗ (b ⊗ c)
@@ -112,7 +88,7 @@ pub ⊗-left-comm : (a b c : ℕ) → a ⊗ (b ⊗ c) ≡ b ⊗ (a ⊗ c)
 
 -- ---- bounds, nought and one
 pub double-lt : (x : ℕ) → x < 256 → double x < 256
-double-lt x h = ltb→lt (double x) 256 (below 256 (λ y. ltb (double y) 256) (unfold double in tt) x h)
+double-lt x h = ltb-true (double x) 256 (below 256 (λ y. ltb (double y) 256) (unfold double in refl) x h)
 
 shiftAdd-lt : (n a b : ℕ) → b < 256 → shiftAdd n a b < 256
 unfolding shiftAdd
@@ -136,7 +112,7 @@ pub zero-⊗ : (a : ℕ) → 0 ⊗ a ≡ 0
 zero-⊗ a = ⊗-comm 0 a ∙ ⊗-zero a
 
 pub one-⊗ : (a : ℕ) → a < 256 → 1 ⊗ a ≡ a
-one-⊗ a h = eqb→eq (1 ⊗ a) a (below 256 (λ y. eqb (1 ⊗ y) y) (unfold _⊗_ in tt) a h)
+one-⊗ a h = eqb-true (1 ⊗ a) a (below 256 (λ y. eqb (1 ⊗ y) y) (unfold _⊗_ in refl) a h)
 
 pub ⊗-one : (a : ℕ) → a < 256 → a ⊗ 1 ≡ a
 ⊗-one a h = ⊗-comm a 1 ∙ one-⊗ a h

@@ -1,3 +1,6 @@
+-- Tests
+mod Tests
+mod Everywhere
 -- The field
 mod Xor
 mod Linear
@@ -12,7 +15,6 @@ mod Generator
 mod Linearity
 -- A column has one solution
 mod Listed
-mod Tests
 mod LegalNumbers
 mod Unique
 mod Kernel
@@ -31,6 +33,7 @@ mod Rows
 mod Content
 mod Cells
 mod Steps
+mod Reduced
 mod Solution
 mod SolvedPages
 -- What others may use

@@ -1,5 +1,5 @@
--- The product is additive in each factor.
--- Assumes nothing.
+-- The sum is a group's, of octets an octet, and the product is additive in each factor.
+-- Shift-and-add goes digit by digit, and the exclusive or is a sum of each digit.
 use mathlib.Core.Path.{_≡_, refl, sym, ap, ap₂, _∙_}
 use Prim.Native.Nat.{ℕ, zero, suc, _*_, _/_, _%_, _^_, _<_, suc-le-suc}
 use native.Mathlib.Nat.{zero-lt-suc, zero-mul, one-mul, add-zero, pow-suc, div-add-mod'}

@@ -1,4 +1,5 @@
--- A list plus f times another of the same length, and the loop that fills it in: each turn sets its next element.
+-- A list plus f times another of the same length, and the loop that fills it in.
+-- It is known at every place, and each turn sets its next element.
 use mathlib.Core.Path.{_≡_, sym, ap, _∙_}
 use mathlib.Core.List.{List}
 use Prim.Native.Nat.{ℕ, _+_, _≤_, _<_}
@@ -21,9 +22,9 @@ module _ (a b : List ℕ) (f : ℕ) where
     pub more-length : length (more a b f) ≡ length a
     more-length = plus-even a (scale f b) (even ∙ sym (scale-length f b))
 
-    pub more-next : (v : List ℕ) (j m : ℕ) → j < length a → m ≡ getD b j 0 ⊗ f → Filled 0 a (more a b f) v j → Filled 0 a (more a b f) (set v j (getD a j 0 ⊕ m)) (j + 1)
+    pub more-next : (v : List ℕ) (j m : ℕ) → j < length a → m ≡ getD b j 0 ⊗ f → Filled a (more a b f) v j → Filled a (more a b f) (set v j (getD a j 0 ⊕ m)) (j + 1)
     more-next v j m h e g =
         fill-next 0 a (more a b f) v j (getD a j 0 ⊕ m) g (ap (λ (x : ℕ). getD a j 0 ⊕ x) (e ∙ ⊗-comm (getD b j 0) f) ∙ sym (more-get j)) h (omega (arith, more-length))
 
-    pub more-done : (v : List ℕ) (j : ℕ) → length a ≤ j → Filled 0 a (more a b f) v j → v ≡ more a b f
+    pub more-done : (v : List ℕ) (j : ℕ) → length a ≤ j → Filled a (more a b f) v j → v ≡ more a b f
     more-done v j h g = fill-done 0 a (more a b f) v j g h (omega (arith, more-length))

@@ -1,4 +1,5 @@
 -- The 53 octets that belong to one page of a message, or to one row of right sides.
+-- They are a part of the list, known by length and place.
 use mathlib.Core.Path.{_≡_, _∙_}
 use mathlib.Core.List.{List}
 use Prim.Native.Nat.{ℕ, _+_, _*_, _≤_, _<_}

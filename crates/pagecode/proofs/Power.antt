@@ -1,14 +1,17 @@
--- Powers of α; logarithms; inverses; no divisors of nought.
--- Assumes nothing.
+-- The powers of α below 255 are different and come round; logarithms and inverses; there are no divisors of 0.
+-- Each table's rule is one test over the whole table, carried to each entry by a lemma.
 use mathlib.Core.Path.{_≡_, refl, sym, ap, _∙_}
+use mathlib.Core.Bool.{true}
 use mathlib.Core.Logic.{_≢_}
 use Prim.Native.Nat.{ℕ, zero, suc, _+_, _*_, _/_, _%_, _<_}
 use native.Mathlib.Nat.{zero-add, suc-add, div-add-mod'}
 use native.Mathlib.Omega.{arith}
-use lib.Dec.{T, eqb, eqb→eq, ltb, ltb→lt, lit<}
+use lib.Dec.{eqb, ltb, lit<}
+use borrow.Author.Tests.{eqb-true, ltb-true}
 use lib.ListN.{getD}
 use Rattle.pagecode.specs.Field.{_⊗_, double, power, Logarithm, Inverse}
-use Rattle.pagecode.proofs.Laws.{all, below, ⊗-comm, ⊗-assoc, ⊗-zero, one-⊗, double-lt}
+use Rattle.pagecode.proofs.Everywhere.{all, below}
+use Rattle.pagecode.proofs.Laws.{⊗-comm, ⊗-assoc, ⊗-zero, one-⊗, double-lt}
 use Rattle.pagecode.proofs.Tables.{powers, logs, inverses}
 
 pub power-lt : (n : ℕ) → power n < 256
@@ -17,7 +20,7 @@ power-lt zero = lit< tt
 power-lt (suc n) = double-lt (power n) (power-lt n)
 
 pub double-is : (x : ℕ) → x < 256 → double x ≡ 2 ⊗ x
-double-is x h = eqb→eq (double x) (2 ⊗ x) (below 256 (λ y. eqb (double y) (2 ⊗ y)) (unfold double _⊗_ in tt) x h)
+double-is x h = eqb-true (double x) (2 ⊗ x) (below 256 (λ y. eqb (double y) (2 ⊗ y)) (unfold double _⊗_ in refl) x h)
 
 pub power-suc : (n : ℕ) → power (suc n) ≡ 2 ⊗ power n
 unfolding power
@@ -28,49 +31,49 @@ power-add zero n = ap power (zero-add n) ∙ sym (unfold power in one-⊗ (power
 power-add (suc m) n = ap power (suc-add m n) ∙ power-suc (m + n) ∙ ap (λ (x : ℕ). 2 ⊗ x) (power-add m n) ∙ sym (⊗-assoc 2 (power m) (power n)) ∙ ap (λ (x : ℕ). x ⊗ power n) (sym (power-suc m))
 
 -- ---- the tables' rules
-powers-test : T (all 255 (λ i. eqb (getD powers i 0) (power i)))
+powers-test : all 255 (λ i. eqb (getD powers i 0) (power i)) ≡ true
 unfolding powers power
-powers-test = tt
+powers-test = refl
 
-logs-test : T (all 255 (λ i. eqb (getD powers (getD logs (suc i) 0) 0) (suc i)))
+logs-test : all 255 (λ i. eqb (getD powers (getD logs (suc i) 0) 0) (suc i)) ≡ true
 unfolding powers logs
-logs-test = tt
+logs-test = refl
 
-logs-lt-test : T (all 256 (λ i. ltb (getD logs i 0) 255))
+logs-lt-test : all 256 (λ i. ltb (getD logs i 0) 255) ≡ true
 unfolding logs
-logs-lt-test = tt
+logs-lt-test = refl
 
-logs-powers-test : T (all 255 (λ i. eqb (getD logs (getD powers i 0) 0) i))
+logs-powers-test : all 255 (λ i. eqb (getD logs (getD powers i 0) 0) i) ≡ true
 unfolding logs powers
-logs-powers-test = tt
+logs-powers-test = refl
 
-inverses-test : T (all 255 (λ i. eqb (suc i ⊗ getD inverses (suc i) 0) 1))
+inverses-test : all 255 (λ i. eqb (suc i ⊗ getD inverses (suc i) 0) 1) ≡ true
 unfolding inverses _⊗_
-inverses-test = tt
+inverses-test = refl
 
-inverses-lt-test : T (all 256 (λ i. ltb (getD inverses i 0) 256))
+inverses-lt-test : all 256 (λ i. ltb (getD inverses i 0) 256) ≡ true
 unfolding inverses
-inverses-lt-test = tt
+inverses-lt-test = refl
 
 pub inverses-lt : (a : ℕ) → a < 256 → getD inverses a 0 < 256
-inverses-lt a h = ltb→lt (getD inverses a 0) 256 (below 256 (λ k. ltb (getD inverses k 0) 256) inverses-lt-test a h)
+inverses-lt a h = ltb-true (getD inverses a 0) 256 (below 256 (λ k. ltb (getD inverses k 0) 256) inverses-lt-test a h)
 
 pub powers-at : (i : ℕ) → i < 255 → getD powers i 0 ≡ power i
-powers-at i h = eqb→eq (getD powers i 0) (power i) (below 255 (λ k. eqb (getD powers k 0) (power k)) powers-test i h)
+powers-at i h = eqb-true (getD powers i 0) (power i) (below 255 (λ k. eqb (getD powers k 0) (power k)) powers-test i h)
 
 pub logs-lt : (a : ℕ) → a < 256 → getD logs a 0 < 255
-logs-lt a h = ltb→lt (getD logs a 0) 255 (below 256 (λ k. ltb (getD logs k 0) 255) logs-lt-test a h)
+logs-lt a h = ltb-true (getD logs a 0) 255 (below 256 (λ k. ltb (getD logs k 0) 255) logs-lt-test a h)
 
 pub power-log : (a : ℕ) → a < 256 → a ≢ 0 → power (getD logs a 0) ≡ a
 power-log zero h n = absurd (n refl)
 power-log (suc a) h n =
     sym (powers-at (getD logs (suc a) 0) (logs-lt (suc a) h))
-    ∙ eqb→eq (getD powers (getD logs (suc a) 0) 0) (suc a) (below 255 (λ i. eqb (getD powers (getD logs (suc i) 0) 0) (suc i)) logs-test a (omega arith))
+    ∙ eqb-true (getD powers (getD logs (suc a) 0) 0) (suc a) (below 255 (λ i. eqb (getD powers (getD logs (suc i) 0) 0) (suc i)) logs-test a (omega arith))
 
 pub log-power : (i : ℕ) → i < 255 → getD logs (power i) 0 ≡ i
 log-power i h =
     ap (λ (x : ℕ). getD logs x 0) (sym (powers-at i h))
-    ∙ eqb→eq (getD logs (getD powers i 0) 0) i (below 255 (λ k. eqb (getD logs (getD powers k 0) 0) k) logs-powers-test i h)
+    ∙ eqb-true (getD logs (getD powers i 0) 0) i (below 255 (λ k. eqb (getD logs (getD powers k 0) 0) k) logs-powers-test i h)
 
 pub power-inj : (i j : ℕ) → i < 255 → j < 255 → power i ≡ power j → i ≡ j
 power-inj i j h k e = sym (log-power i h) ∙ ap (λ (x : ℕ). getD logs x 0) e ∙ log-power j k
@@ -97,7 +100,7 @@ power-round n = ap power (sym (div-add-mod' n 255)) ∙ turns (n / 255) (n % 255
 
 pub ⊗-inverse : (a : ℕ) → a < 256 → a ≢ 0 → a ⊗ getD inverses a 0 ≡ 1
 ⊗-inverse zero h n = absurd (n refl)
-⊗-inverse (suc a) h n = eqb→eq (suc a ⊗ getD inverses (suc a) 0) 1 (below 255 (λ i. eqb (suc i ⊗ getD inverses (suc i) 0) 1) inverses-test a (omega arith))
+⊗-inverse (suc a) h n = eqb-true (suc a ⊗ getD inverses (suc a) 0) 1 (below 255 (λ i. eqb (suc i ⊗ getD inverses (suc i) 0) 1) inverses-test a (omega arith))
 
 -- no divisors of nought
 pub cancel : (a x : ℕ) → a < 256 → a ≢ 0 → x < 256 → a ⊗ x ≡ 0 → x ≡ 0

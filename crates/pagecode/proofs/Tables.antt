@@ -1,5 +1,5 @@
--- The tables of src/, as lists.
--- Assumes nothing.
+-- The tables of powers, logarithms and inverses of src/field, as lists.
+-- That they are the same numbers is shown where the code reads a table.
 use mathlib.Core.List.{List, [], _∷_}
 use Prim.Native.Nat.{ℕ}
 

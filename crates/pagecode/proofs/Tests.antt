@@ -1,4 +1,5 @@
 -- What a joined test tells of its parts.
+-- By cases of the first part.
 use mathlib.Core.Bool.{Bool, true, false, _&&_, _||_, false≢true}
 use mathlib.Core.Logic.{_⊎_, inl, inr}
 use mathlib.Core.Path.{_≡_, refl}

@@ -1,4 +1,5 @@
--- A loop that walks a list from the front tests what is left of it: the list from a place on is the element there and the list behind it.
+-- A loop that walks a list from the front tests what is left of it.
+-- The list from a place on is the element there and the list behind it.
 use mathlib.Core.Path.{_≡_, sym, ap, _∙_}
 use mathlib.Core.List.{List, _∷_}
 use Prim.Native.Nat.{ℕ, _+_, _<_}

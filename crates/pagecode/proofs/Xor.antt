@@ -1,4 +1,5 @@
--- Octets are added by xor.
+-- The exclusive or is associative.
+-- It is so of two digits, and a number is its half and its last digit.
 use mathlib.Core.Path.{_≡_, refl, sym, ap, ap₂, _∙_}
 use Prim.Native.Nat.{ℕ, zero, suc, _+_, _*_, _/_, _%_, _<_}
 use native.Mathlib.Nat.{mod-lt, zero-lt-suc}

@@ -12,6 +12,7 @@ mod sizes;
 mod solving;
 
 pub use encoding::encode_page;
+pub use numbers::is_legal;
 use refusal::Refusal;
 pub use solving::solve;
 

@@ -9,7 +9,7 @@ use Rattle.pagecode.proofs.elimination.add_row.Statement.{statement}
 use Rattle.pagecode.proofs.elimination.add_row.Tie as tie
 
 abbrev Inv-loop : tie.InvT-loop
-Inv-loop f row other s₀ j₀ s j = Filled 0 row (more row other f) s j × (j ≤ 32)
+Inv-loop f row other s₀ j₀ s j = Filled row (more row other f) s j × (j ≤ 32)
 
 abbrev μ-loop : tie.MeasureT-loop
 μ-loop f row other s₀ j₀ s j = 32 - j

@@ -10,7 +10,7 @@ use Rattle.pagecode.proofs.elimination.side_of.Statement.{statement}
 use Rattle.pagecode.proofs.elimination.side_of.Tie as tie
 
 abbrev Inv-loop : tie.InvT-loop
-Inv-loop sides r s₀ j₀ s j = Filled 0 s₀ (piece sides r) s j × (j ≤ 53)
+Inv-loop sides r s₀ j₀ s j = Filled s₀ (piece sides r) s j × (j ≤ 53)
 
 abbrev μ-loop : tie.MeasureT-loop
 μ-loop sides r s₀ j₀ s j = 53 - j

@@ -3,7 +3,7 @@ use Prim.Native.Nat.{_-_}
 use borrow.Author.Needs.{needs}
 use Rattle.pagecode.specs.System.{cell}
 use Rattle.pagecode.proofs.Cells.{rows-octets}
-use Rattle.pagecode.proofs.Steps.{pivoted, SolveLoop, solve-start, solve-turn, solve-end}
+use Rattle.pagecode.proofs.Reduced.{pivoted, SolveLoop, solve-start, solve-turn, solve-end}
 use Rattle.pagecode.proofs.elimination.solve_square.Statement.{statement}
 use Rattle.pagecode.proofs.elimination.solve_square.Tie as tie
 

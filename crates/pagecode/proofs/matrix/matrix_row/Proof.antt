@@ -12,7 +12,7 @@ use Rattle.pagecode.proofs.matrix.matrix_row.Statement.{statement}
 use Rattle.pagecode.proofs.matrix.matrix_row.Tie as tie
 
 abbrev Inv-loop : tie.InvT-loop
-Inv-loop columns p row₀ j₀ row j = (j ≤ 32) × Filled 0 row₀ (matrixRow p) row j
+Inv-loop columns p row₀ j₀ row j = (j ≤ 32) × Filled row₀ (matrixRow p) row j
 
 abbrev μ-loop : tie.MeasureT-loop
 μ-loop columns p row₀ j₀ row j = 32 - j

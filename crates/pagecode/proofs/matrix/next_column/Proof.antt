@@ -15,7 +15,7 @@ use Rattle.pagecode.proofs.matrix.next_column.Statement.{statement}
 use Rattle.pagecode.proofs.matrix.next_column.Tie as tie
 
 abbrev Inv-loop : tie.InvT-loop
-Inv-loop c table f d₀ i₀ d i = (i ≤ 222) × Filled 0 d₀ (remainder 1 divisor (c ++ (0 ∷ []))) d i
+Inv-loop c table f d₀ i₀ d i = (i ≤ 222) × Filled d₀ (remainder 1 divisor (c ++ (0 ∷ []))) d i
 
 abbrev μ-loop : tie.MeasureT-loop
 μ-loop c table f d₀ i₀ d i = 222 - i
@@ -79,7 +79,7 @@ returns c =
     let v : List ℕ = c .before .before .loop .d in
     let x : ℕ = c .product2 .result in
     let e : c .before .before .loop .i ≡ 222 = omega arith in
-    let most : Filled 0 (replicate 223 0) s v 222 = subst (Filled 0 (replicate 223 0) s v) e (c .before .before .loop .inv .1) in
+    let most : Filled (replicate 223 0) s v 222 = subst (Filled (replicate 223 0) s v) e (c .before .before .loop .inv .1) in
     fill-done 0 (replicate 223 0) s (set v 222 x) 223
     (fill-next 0 (replicate 223 0) s v 222 x most (next-last a x l (c .product2 .ensures)) (omega arith) (omega (arith, next-length a l)))
     (omega arith)

@@ -12,7 +12,7 @@ use Rattle.pagecode.proofs.page.add_page.Statement.{statement}
 use Rattle.pagecode.proofs.page.add_page.Tie as tie
 
 record Inv (d m : List ℕ) (i f : ℕ) (s : List ℕ) (j : ℕ) : Type 0 where
-  is : Filled 0 d (more d (piece m i) f) s j
+  is : Filled d (more d (piece m i) f) s j
   upto : j ≤ 53
 
 abbrev Inv-loop : tie.InvT-loop

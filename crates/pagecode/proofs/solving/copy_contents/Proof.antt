@@ -11,7 +11,7 @@ use Rattle.pagecode.proofs.solving.copy_contents.Statement.{statement}
 use Rattle.pagecode.proofs.solving.copy_contents.Tie as tie
 
 abbrev Inv-loop : tie.InvT-loop
-Inv-loop contents out₀ i₀ out i = (i ≤ length contents) × (length out ≡ length out₀) × Filled 0 out₀ contents out i
+Inv-loop contents out₀ i₀ out i = (i ≤ length contents) × (length out ≡ length out₀) × Filled out₀ contents out i
 
 abbrev μ-loop : tie.MeasureT-loop
 μ-loop contents out₀ i₀ out i = length contents - i

@@ -1,0 +1,99 @@
+/* Times encode_page and solve at size 32: all 32 pages from the parity part, fresh random data in every round, each result compared with the
+   message sent. With ISAL the same work by ISA-L: a 32 by 32 matrix inverted, its tables made, 32 rows multiplied; its matrix is given. */
+#include <stdint.h>
+#include <stdio.h>
+#include <stdlib.h>
+#include <string.h>
+#include <time.h>
+#ifdef ISAL
+#include <isa-l.h>
+#endif
+
+enum { ROUNDS = 2000, SIZE = 32, CONTENT = 53, MESSAGE = 1696, PAGE = 56 };
+
+uint64_t timed_encode(const uint8_t *message, size_t n, uint64_t status, uint64_t number, uint64_t page, uint8_t *out, size_t m);
+uint64_t timed_solve(const uint8_t *contents, size_t n, const uint64_t *numbers, size_t k, uint8_t *out, size_t m);
+
+static double micros(void) {
+    struct timespec t;
+    clock_gettime(CLOCK_MONOTONIC, &t);
+    return t.tv_sec * 1e6 + t.tv_nsec / 1e3;
+}
+
+static uint64_t state = 88172645463325252ULL;
+static uint64_t next_random(void) {
+    state ^= state << 13;
+    state ^= state >> 7;
+    state ^= state << 17;
+    return state;
+}
+
+static int by_size(const void *a, const void *b) {
+    double x = *(const double *)a, y = *(const double *)b;
+    return (x > y) - (x < y);
+}
+
+static void report(const char *what, double *t) {
+    qsort(t, ROUNDS, sizeof *t, by_size);
+    printf("%-28s median %8.2f us   least %8.2f us\n", what, t[ROUNDS / 2], t[0]);
+}
+
+/* 32 different numbers of the parity part */
+static void choose(uint64_t *numbers) {
+    int used[256] = {0};
+    for (int i = 0; i < SIZE; i++) {
+        int p;
+        do p = 33 + next_random() % 223;
+        while (used[p]);
+        used[p] = 1;
+        numbers[i] = p;
+    }
+}
+
+static double encoded[ROUNDS], solved[ROUNDS];
+
+int main(void) {
+    uint8_t message[MESSAGE], contents[MESSAGE], out[MESSAGE], page[PAGE];
+    uint64_t numbers[SIZE];
+    int wrong = 0;
+    for (int n = 0; n < ROUNDS; n++) {
+        for (int i = 0; i < MESSAGE; i++) message[i] = next_random();
+        choose(numbers);
+        for (int i = 0; i < SIZE; i++) {
+            double start = micros();
+            wrong += timed_encode(message, MESSAGE, 1, 3, numbers[i], page, PAGE) != 0;
+            encoded[n] = micros() - start;
+            memcpy(contents + CONTENT * i, page + 3, CONTENT);
+        }
+        double start = micros();
+        wrong += timed_solve(contents, MESSAGE, numbers, SIZE, out, MESSAGE) != 0;
+        solved[n] = micros() - start;
+        wrong += memcmp(out, message, MESSAGE) != 0;
+    }
+    printf("size 32, %d rounds, %d wrong\n", ROUNDS, wrong);
+    report("encode_page, one page", encoded);
+    report("solve", solved);
+#ifdef ISAL
+    static uint8_t rows[255 * SIZE], tables[32 * SIZE * SIZE], in[SIZE][64], back[SIZE][64];
+    uint8_t *from[SIZE], *to[SIZE];
+    gf_gen_cauchy1_matrix(rows, 255, SIZE);
+    for (int i = 0; i < SIZE; i++) from[i] = in[i], to[i] = back[i];
+    for (int width = CONTENT; width <= 64; width += 64 - CONTENT) {
+        for (int n = 0; n < ROUNDS; n++) {
+            uint8_t square[SIZE * SIZE], inverse[SIZE * SIZE];
+            choose(numbers);
+            for (int i = 0; i < SIZE; i++) {
+                memcpy(square + SIZE * i, rows + SIZE * (numbers[i] - 1), SIZE);
+                for (int j = 0; j < 64; j++) in[i][j] = next_random();
+            }
+            double start = micros();
+            gf_invert_matrix(square, inverse, SIZE);
+            ec_init_tables(SIZE, SIZE, inverse, tables);
+            ec_encode_data(width, SIZE, SIZE, tables, from, to);
+            solved[n] = micros() - start;
+        }
+        report(width == CONTENT ? "ISA-L, rows of 53 octets" : "ISA-L, rows padded to 64", solved);
+    }
+#endif
+    return wrong != 0;
+}
