@@ -1,0 +1,6 @@
+pub mod Lists
+pub mod Place
+pub mod Feed
+pub mod Valid
+pub mod Demand
+pub mod Demand3

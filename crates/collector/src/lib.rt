@@ -1,0 +1,1 @@
+// The collector (document 01, The collector).
