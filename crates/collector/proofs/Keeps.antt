@@ -56,7 +56,7 @@ judge-ok page o l =
     (λ e₃. rw (e₀, e₁, e₂, e₃) tt))))
 
 -- ---- a page at a place
-absent-number : (n : ℕ) (pages : List Held) → lookup n pages ≡ none → List·Memᴰ n (numbers pages) → ⊥
+pub absent-number : (n : ℕ) (pages : List Held) → lookup n pages ≡ none → List·Memᴰ n (numbers pages) → ⊥
 absent-number n [] e i = List·Memᴰ·not-nil i
 absent-number n (p ∷ ps) e (List·Memᴰ·head q) = Option·none-ne-some (p .content) (sym (rw (eq-eqb n (p .number) q) at e))
 absent-number n (p ∷ ps) e (List·Memᴰ·tail i) =

@@ -18,3 +18,17 @@ pub mod Demand3Proved
 pub mod Wrong
 pub mod Refusals
 pub mod Examples
+-- Loops of the code: one that writes, one that looks; tests
+mod Laid
+mod Search
+mod Tests
+-- What the code holds
+mod Headers
+mod Images
+mod Expiry
+mod Pages
+mod Meeting
+mod Steady
+mod Starts
+-- The contracts settle everything
+pub mod Settled

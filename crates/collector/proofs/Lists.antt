@@ -4,10 +4,10 @@ use mathlib.Core.Bool.{Bool, true, false, _&&_, _||_}
 use mathlib.Core.List.{List, [], _∷_, _++_, map, List·Memᴰ, List·Memᴰ·head, List·Memᴰ·tail, List·Memᴰ·cases-cons, List·Memᴰ·not-nil, Memᴰ·cast, Memᴰ·append-left, Memᴰ·append-right, List·Memᴰ·append-cases, List·Memᴰ·eq-of-singleton}
 use mathlib.Core.Logic.{_⊎_, inl, inr}
 use mathlib.Core.Path.{_≡_, refl, sym, ap, _∙_, subst}
-use Prim.Native.Nat.{ℕ, suc, _≤_, zero-le}
+use Prim.Native.Nat.{ℕ, zero, suc, _≤_, _<_, zero-le}
 use native.Mathlib.Nat.{le-antisymm}
 use native.Mathlib.Omega.{arith}
-use lib.ListN.{length}
+use lib.ListN.{length, getD, set}
 use lib.Dec.{eqb}
 use borrow.Author.Tests.{eqb-true, eq-eqb}
 use Rattle.collector.specs.Lists.{Every, Nodup, memb, add, gather, different}
@@ -187,3 +187,24 @@ every-back P (x ∷ xs) post h = every-back P xs post (h .1)
 pub every-mem : {A : Type 0} (P : A → Type 0) (l : List A) → Every P l → (a : A) → List·Memᴰ a l → P a
 every-mem P (x ∷ xs) ev a (List·Memᴰ·head e) = subst P (sym e) (ev .0)
 every-mem P (x ∷ xs) ev a (List·Memᴰ·tail i) = every-mem P xs (ev .1) a i
+
+-- ---- one element of a list
+pub map-get : {A B : Type 0} (f : A → B) (l : List A) (i : ℕ) (d : A) (z : B) → i < length l → getD (map f l) i z ≡ f (getD l i d)
+map-get f [] i d z h = absurd (omega arith)
+map-get f (x ∷ l) zero d z h = refl
+map-get f (x ∷ l) (suc i) d z h = map-get f l i d z (omega arith)
+
+pub map-set : {A B : Type 0} (f : A → B) (l : List A) (i : ℕ) (x : A) → map f (set l i x) ≡ set (map f l) i (f x)
+map-set f [] i x = refl
+map-set f (y ∷ l) zero x = refl
+map-set {B = B} f (y ∷ l) (suc i) x = ap (λ (r : List B). f y ∷ r) (map-set f l i x)
+
+pub every-set : {A : Type 0} (P : A → Type 0) (l : List A) (i : ℕ) (x : A) → Every P l → P x → Every P (set l i x)
+every-set P [] i x e p = tt
+every-set P (y ∷ l) zero x e p = (p, e .1)
+every-set P (y ∷ l) (suc i) x e p = (e .0, every-set P l i x (e .1) p)
+
+pub every-get : {A : Type 0} (P : A → Type 0) (l : List A) (i : ℕ) (d : A) → Every P l → P d → P (getD l i d)
+every-get P [] i d e p = p
+every-get P (x ∷ l) zero d e p = e .0
+every-get P (x ∷ l) (suc i) d e p = every-get P l i d (e .1) p

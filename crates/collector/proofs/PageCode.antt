@@ -45,9 +45,17 @@ unfolding allLegal
 every-legal k [] ev = refl
 every-legal k (p ∷ ps) ev = rw (ev .0 .legal-number, every-legal k ps (ev .1))
 
-contents-length : (k : Key) (pages : List Held) → Every (PageOk k) pages → length (contents pages) ≡ length pages * 53
-contents-length k [] ev = refl
-contents-length k (p ∷ ps) ev = omega (arith, length-append (p .content) (contents ps), ev .0 .long, contents-length k ps (ev .1))
+-- a page of 53 octets
+abbrev pub Long : Held → Type 0
+Long p = length (p .content) ≡ 53
+
+pub contents-length : (pages : List Held) → Every Long pages → length (contents pages) ≡ length pages * 53
+contents-length [] e = refl
+contents-length (p ∷ ps) e = let ih = contents-length ps (e .1) in omega (arith, length-append (p .content) (contents ps), e .0, ih)
+
+pub long-pages : (k : Key) (pages : List Held) → Every (PageOk k) pages → Every Long pages
+long-pages k [] e = tt
+long-pages k (p ∷ ps) e = (e .0 .long, long-pages k ps (e .1))
 
 append-octets : (a b : List ℕ) → Octets a → Octets b → Octets (a ++ b)
 append-octets [] b oa ob i = ob i
@@ -66,7 +74,7 @@ solvable k ko pages nd ev l =
     let n = numbers-length pages in
     let few = ko .few in
     let some = ko .some in
-    let c = contents-length k pages ev in
+    let c = contents-length pages (long-pages k pages ev) in
     record {
       octets = contents-octets k pages ev;
       pages = rw (le-leb 1 (length (numbers pages)) (omega arith), le-leb (length (numbers pages)) 32 (omega arith), eq-eqb (length (contents pages)) (length (numbers pages) * 53) (omega arith));

@@ -8,6 +8,8 @@ use lib.ListN.{length, drop, replicate}
 use lib.Dec.{leb, ltb, eqb}
 use Rattle.refusal.specs.declared.Refusal.{Refusal}
 use Rattle.refusal.specs.declared.Refusal.the-variants.{Length, Out, Second, Clock, Dummy, Stop, Status, Kind, PageNumber, Done, Repeat, Conflict, Full, Timeout}
+use Rattle.pagecode.specs.declared.Answer.{Answer as StartAnswer}
+use Rattle.pagecode.specs.declared.Answer.the-variants.{Good, Refused}
 use Rattle.pagecode.specs.Page.{legal, headerOf, isDummy}
 use Rattle.pagecode.proofs.Promises.{solutionOf}
 use Rattle.collector.specs.Place.{Key, Held, Place, free, waiting, done, hasKey, isFree, find, anyFree, replace, expire, pagesIn, lookup, numbers, contents}
@@ -45,6 +47,12 @@ fresh timeout = record { timeout = timeout; last = 0; places = replicate 8 free 
 
 unfoldable pub startable : ℕ → Bool
 startable timeout = leb 1 timeout && leb timeout 600
+
+unfoldable pub startAnswer : ℕ → StartAnswer
+startAnswer timeout = cond (startable timeout) Good (Refused Timeout)
+
+unfoldable pub begun : ℕ → Collector
+begun timeout = fresh (cond (startable timeout) timeout 1)
 
 -- ---- check 2: "The second becomes the last one, and every place whose first second is a time-out or more ago is freed."
 unfoldable pub tick : ℕ → Collector → Collector

@@ -1,1 +1,21 @@
-// The collector (document 01, The collector).
+// The collector (document 01, The collector): pages are held until a message is solved.
+mod clock;
+mod feeding;
+mod finding;
+mod header;
+mod keeping;
+mod starting;
+mod state;
+mod store;
+
+pub use feeding::feed;
+pub use starting::TIMEOUT;
+pub use starting::start;
+pub use state::Collector;
+pub use state::Fed;
+pub use state::FedCollector;
+pub use state::Head;
+pub use state::Key;
+pub use state::Place;
+pub use state::PlaceState;
+pub use state::Started;

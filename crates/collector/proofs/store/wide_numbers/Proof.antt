@@ -1,0 +1,53 @@
+-- After i turns the first i numbers are laid over the zeros.
+use mathlib.Core.Path.{_≡_, refl, sym, _∙_}
+use Prim.Native.Nat.{_-_, _≤_}
+use native.Mathlib.Nat.{zero-add}
+use lib.ListN.{take, replicate}
+use borrow.Author.Needs.{needs}
+use Rattle.collector.specs.Steps.{laid}
+use Rattle.collector.proofs.Laid.{laid-none, laid-next, laid-all, laid-over}
+use Rattle.collector.proofs.store.wide_numbers.Statement.{statement}
+use Rattle.collector.proofs.store.wide_numbers.Tie as tie
+
+abbrev Inv-loop : tie.InvT-loop
+Inv-loop numbers wide₀ i₀ wide i = (i ≤ 32) × (wide ≡ laid wide₀ 0 (take i numbers))
+
+abbrev μ-loop : tie.MeasureT-loop
+μ-loop numbers wide₀ i₀ wide i = 32 - i
+
+loop-holds : tie.Need-loop-holds Inv-loop μ-loop
+loop-holds c = (search needs, laid-none (replicate 32 0) 0 (c .args .t1))
+
+array-read-wide : tie.Need-array-read-wide Inv-loop μ-loop
+array-read-wide c = search needs
+
+cast-wide : tie.Need-cast-wide Inv-loop μ-loop
+cast-wide c = search needs
+
+mul-wide : tie.Need-mul-wide Inv-loop μ-loop
+mul-wide c = search needs
+
+array-write-wide : tie.Need-array-write-wide Inv-loop μ-loop
+array-write-wide c = search needs
+
+add-i : tie.Need-add-i Inv-loop μ-loop
+add-i c = search needs
+
+loop-less : tie.Need-loop-less Inv-loop μ-loop
+loop-less c = search needs
+
+loop-again : tie.Need-loop-again Inv-loop μ-loop
+loop-again c =
+    let a = c .before .before .args in
+    let l = c .before .loop in
+    (search needs, laid-next (replicate 32 0) 0 (a .t1) (l .wide) (l .i) _ _ (sym (zero-add (l .i))) refl (search needs) (search needs) (l .inv .1))
+
+returns : tie.Need-returns Inv-loop μ-loop
+returns c =
+    let a = c .before .before .args in
+    let l = c .before .loop in
+    l .inv .1 ∙ laid-all (replicate 32 0) 0 (a .t1) (l .i) (search needs) ∙ laid-over (replicate 32 0) (a .t1) (search needs)
+
+pub wide-numbers-spec : {M : Type 1} → statement M
+wide-numbers-spec =
+    tie.close (tie.spec Inv-loop μ-loop loop-holds array-read-wide cast-wide mul-wide array-write-wide add-i loop-less loop-again returns)
