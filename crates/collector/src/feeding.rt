@@ -4,7 +4,7 @@ ghost use mathlib.Core.Bool.{true};
 ghost use Prim.Native.Nat.{ℕ, _<_};
 ghost use lib.ListN.{getD, length};
 ghost use Rattle.collector.specs.Place.{hasKey, free};
-ghost use Rattle.collector.specs.Feed.{Collector as CollectorModel, Call, keyOf, heldOf, judge, good, arrive, hold, received, feed as fedTo};
+ghost use Rattle.collector.specs.Feed.{Collector as CollectorModel, keyOf, heldOf, judge, good, arrive, hold, received, feed as fedTo};
 ghost use Rattle.collector.specs.Image.{keyImage, Made, Feeds};
 ghost use Rattle.collector.specs.Steps.{State, MadeOf, Does, settledAt};
 ghost use Rattle.collector.specs.declared.state.Fed.the-variants.{Refused};
