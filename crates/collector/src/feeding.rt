@@ -25,6 +25,7 @@ use crate::state::PLACE_OCTETS;
 use crate::state::PLACES;
 use crate::state::Place;
 use crate::state::PlaceState;
+use crate::state::STORE_OCTETS;
 use crate::store::clear_store;
 use crate::store::find_number;
 use crate::store::is_same_content;
@@ -147,22 +148,34 @@ fn feed_head(head: Head, store: &mut [u8], second: u64, page: &[u8], out: &mut [
     receive(next, store, second, page, out)
 }
 
+// A feed on a collector in two parts: its head by value, its store where it stands.
+pub fn feed_in_place(
+    head: Head,
+    store: &mut [u8; STORE_OCTETS],
+    second: u64,
+    page: &[u8],
+    out: &mut [u8],
+) -> FedHead
+    requires { ⌜ Made (record { head = head; store = now store }) ⌝ }
+    ensures { λ r. ⌜ Feeds (record { head = head; store = now (store .entry) }) (record { second = second; page = now (page .entry); room = length (now (out .entry)) }) (now (out .entry))
+        (record { answer = r .answer; collector = record { head = r .head; store = now (store .exit) } }) (now (out .exit)) ⌝ }
+{
+    let octets: &mut [u8] = store;
+    feed_head(head, octets, second, page, out)
+}
+
 // A feed: the collector by value, a second, a page and an output buffer.
-pub fn feed(collector: Collector, second: u64, page: &[u8], out: &mut [u8]) -> FedCollector
+pub fn feed(mut collector: Collector, second: u64, page: &[u8], out: &mut [u8]) -> FedCollector
     requires { ⌜ Made collector ⌝ }
     ensures { λ r. ⌜ Feeds collector (record { second = second; page = now (page .entry); room = length (now (out .entry)) }) (now (out .entry)) r (now (out .exit)) ⌝ }
 {
     let head = collector.head;
-    let mut store = collector.store;
-    let fed = feed_head(head, &mut store, second, page, out);
+    let fed = feed_in_place(head, &mut collector.store, second, page, out);
     let answer = fed.answer;
     let after = fed.head;
-    let next = Collector {
-        head: after,
-        store: store,
-    };
+    collector.head = after;
     FedCollector {
         answer: answer,
-        collector: next,
+        collector: collector,
     }
 }

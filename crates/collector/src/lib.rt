@@ -9,11 +9,13 @@ mod state;
 mod store;
 
 pub use feeding::feed;
+pub use feeding::feed_in_place;
 pub use starting::TIMEOUT;
 pub use starting::start;
 pub use state::Collector;
 pub use state::Fed;
 pub use state::FedCollector;
+pub use state::FedHead;
 pub use state::Head;
 pub use state::Key;
 pub use state::Place;
