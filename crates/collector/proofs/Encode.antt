@@ -12,16 +12,16 @@ use Rattle.pagecode.specs.Page.{legal, headerOf, isDummy, content}
 use Rattle.pagecode.proofs.Promises.{encoded-header, encoded-no-dummy, encoded-content}
 use Rattle.collector.specs.Feed.{good, judge}
 use Rattle.collector.specs.Demand.{Message, keyFor, Sound, encoded, contentAt}
-use Rattle.collector.proofs.Lists.{and-true, or-true}
+use Rattle.lists.proofs.Tests.{and-right, or-cases}
 use Rattle.collector.proofs.PageCode.{pageAt}
 
 legal-octet : (k n : ℕ) → k ≤ 32 → legal k n ≡ true → n < 256
 unfolding legal
-legal-octet k n few l = go (or-true (leb 1 n && leb n k) (leb 33 n && leb n 255) l)
+legal-octet k n few l = go (or-cases (leb 1 n && leb n k) (leb 33 n && leb n 255) l)
   where
     go : ((leb 1 n && leb n k) ≡ true) ⊎ ((leb 33 n && leb n 255) ≡ true) → n < 256
-    go (inl e) = omega (arith, leb-true n k (and-true (leb 1 n) (leb n k) e .1))
-    go (inr e) = omega (arith, leb-true n 255 (and-true (leb 33 n) (leb n 255) e .1))
+    go (inl e) = omega (arith, leb-true n k (and-right (leb 1 n) (leb n k) e))
+    go (inr e) = omega (arith, leb-true n 255 (and-right (leb 33 n) (leb n 255) e))
 
 module _ (m : Message) (so : Sound m) (n : ℕ) (l : legal (m .size) n ≡ true) where
   size-back : length (m .octets) / 53 ≡ m .size
@@ -44,4 +44,4 @@ module _ (m : Message) (so : Sound m) (n : ℕ) (l : legal (m .size) n ≡ true)
   pub judge-encode : judge (encoded m n) ≡ good (keyFor m) (pageAt m n)
   unfolding judge
   judge-encode =
-      rw (no-dummy, header, ne-eqb (m .status) 3 (omega (arith, so .status)), ne-eqb (m .status) 2 (omega (arith, so .status)), l, body)
+      simp (no-dummy, header, ne-eqb (m .status) 3 (omega (arith, so .status)), ne-eqb (m .status) 2 (omega (arith, so .status)), l, body)

@@ -12,7 +12,8 @@ use Rattle.collector.specs.declared.state.Place.{Place as PlaceImage}
 use Rattle.collector.specs.Place.{Place, free, waiting, done, expire}
 use Rattle.collector.specs.Valid.{PlaceOk}
 use Rattle.collector.specs.Image.{placeImage}
-use Rattle.collector.specs.Steps.{laid, stateOver, Hold, Holding, expireAt}
+use Rattle.lists.specs.Lists.{laid}
+use Rattle.collector.specs.Steps.{stateOver, Hold, Holding, expireAt}
 use Rattle.collector.proofs.Lists.{map-get, map-set, every-set}
 use Rattle.collector.proofs.Images.{store-whole, store-free, roomy-places}
 

@@ -11,12 +11,14 @@ use native.Mathlib.Omega.{arith}
 use lib.ListN.{length}
 use lib.Dec.{eqb, leb}
 use borrow.Author.Tests.{le-leb, lt-leb, leb-true, leb-false, eqb-true, eqb-false}
-use Rattle.collector.specs.Lists.{Every, memb, add}
+use Rattle.lists.specs.Lists.{Every, memb}
+use Rattle.collector.specs.Lists.{add}
 use Rattle.collector.specs.Place.{Key, Held, Place, sameKey, isFree, find, pagesIn, lookup, numbers}
 use Rattle.collector.specs.Feed.{Collector, Answer, ready, fresh, feed, run, answers, heldAt}
 use Rattle.collector.specs.Demand.{Message, keyFor, Sound, Sent, Fed, Of, contentAt, call, Timed, Setting, numbersOf, seen, expected, isReady, outs, SamePages}
 use Rattle.collector.specs.Demand3.{isOut, Comes}
-use Rattle.collector.proofs.Lists.{every-front, every-back, length-snoc, onBool, clash, map-inj, different-same, different-mem, mem-different, memb-iff}
+use Rattle.lists.proofs.Tests.{onBool, clash}
+use Rattle.collector.proofs.Lists.{every-front, every-back, length-snoc, map-inj, different-same, different-mem, mem-different, memb-iff}
 use Rattle.collector.proofs.Places.{same-true, is-free}
 use Rattle.collector.proofs.PageCode.{PageOf}
 use Rattle.collector.proofs.OnePlace.{placeOf, lookup-pages}

@@ -8,11 +8,11 @@ use mathlib.Core.Path.{_≡_, refl, sym, ap, _∙_, subst}
 use Prim.Native.Nat.{ℕ, zero, suc}
 use lib.ListN.{length, replicate}
 use lib.Dec.{eqb}
-use Rattle.collector.specs.Lists.{Every}
+use Rattle.lists.specs.Lists.{Every}
 use Rattle.collector.specs.Place.{Key, Held, Place, free, waiting, done, sameKey, hasKey, isFree, find, anyFree, replace, expire, lookup, FirstIs}
 use Rattle.collector.specs.Feed.{Collector, Step, grow, again, arrive, hold}
 use Rattle.collector.specs.Valid.{Apart}
-use Rattle.collector.proofs.Lists.{onBool, clash}
+use Rattle.lists.proofs.Tests.{onBool, clash}
 use Rattle.collector.proofs.Places.{expired, Keyed, keyed-of, keyed-self, keyed-other, key-hit, free-hit, is-free, found, find-replace-other, find-replace-key, find-replace-free, apart-replace-key, apart-replace-free}
 
 -- ---- one fact at every place

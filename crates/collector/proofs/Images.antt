@@ -7,15 +7,14 @@ use native.Mathlib.Nat.{add-zero, sub-zero, zero-sub, suc-sub-suc}
 use native.Mathlib.Omega.{arith}
 use lib.ListN.{length, getD, set, take, drop, replicate, length-append, length-drop, length-replicate}
 use lib.Seq.{take-append-le, take-append-seam, drop-append-le, drop-append-add, take-length}
-use Rattle.collector.specs.Lists.{Every}
+use Rattle.lists.specs.Lists.{Every, laid}
 use Rattle.collector.specs.Place.{Held, Place, free, waiting, done, pagesIn, numbers, contents}
 use Rattle.collector.specs.Valid.{PlaceOk}
 use Rattle.collector.specs.Image.{padded, storeImage}
-use Rattle.collector.specs.Steps.{laid}
 use Rattle.collector.proofs.Lists.{every-get}
 use Rattle.collector.proofs.Places.{numbers-length, numbers-snoc}
 use Rattle.collector.proofs.PageCode.{Long, contents-length, long-pages}
-use Rattle.collector.proofs.Laid.{laid-one, laid-over, laid-first, laid-second}
+use Rattle.lists.proofs.Laid.{laid-one, laid-over, laid-first, laid-second}
 
 -- ---- a list, and zeros behind it up to n
 pub padded-length : (n : ℕ) (l : List ℕ) → length l ≤ n → length (padded n l) ≡ n

@@ -14,11 +14,13 @@ use borrow.Author.Tests.{eqb-true, eqb-false, ltb-false, eq-eqb}
 use Rattle.refusal.specs.declared.Refusal.the-variants.{Full}
 use Rattle.pagecode.specs.Field.{Octets}
 use Rattle.pagecode.specs.Page.{isDummy, legal, headerOf, bitsFrom}
-use Rattle.collector.specs.Lists.{Every, Nodup}
+use Rattle.lists.specs.Lists.{Every}
+use Rattle.collector.specs.Lists.{Nodup}
 use Rattle.collector.specs.Place.{Key, Held, Place, free, waiting, done, hasKey, isFree, find, anyFree, expire, lookup, numbers, FirstIs}
 use Rattle.collector.specs.Feed.{Collector, refused, Call, Step, fresh, tick, keyOf, Judged, bad, stop, good, judge, grow, again, arrive, hold, received, feed, run}
 use Rattle.collector.specs.Valid.{KeyOk, PageOk, OpenOk, PlaceOk, Valid}
-use Rattle.collector.proofs.Lists.{length-snoc, every-snoc, onBool, clash, nodup-snoc}
+use Rattle.lists.proofs.Tests.{onBool, clash}
+use Rattle.collector.proofs.Lists.{length-snoc, every-snoc, nodup-snoc}
 use Rattle.collector.proofs.Places.{numbers-snoc, same-true, found, apart-expire, apart-none}
 use Rattle.collector.proofs.Hold.{every-mono, every-expire, Holds, hold-law, every-find, every-none, arrive-first}
 

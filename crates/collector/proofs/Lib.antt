@@ -18,8 +18,7 @@ pub mod Demand3Proved
 pub mod Wrong
 pub mod Refusals
 pub mod Examples
--- Loops of the code: one that writes, one that looks; tests
-mod Laid
+-- A loop of the code that looks; tests
 mod Search
 mod Tests
 -- What the code holds

@@ -1,4 +1,4 @@
--- Tests by cases, and lists with no element twice: the pigeonhole, and the different numbers of a list.
+-- Lists with no element twice: the pigeonhole, and the different numbers of a list.
 -- The pigeonhole takes one place from the longer list for each element; `add` puts a number behind the others only if it is new.
 use mathlib.Core.Bool.{Bool, true, false, _&&_, _||_}
 use mathlib.Core.List.{List, [], _∷_, _++_, map, List·Memᴰ, List·Memᴰ·head, List·Memᴰ·tail, List·Memᴰ·cases-cons, List·Memᴰ·not-nil, Memᴰ·cast, Memᴰ·append-left, Memᴰ·append-right, List·Memᴰ·append-cases, List·Memᴰ·eq-of-singleton}
@@ -10,23 +10,9 @@ use native.Mathlib.Omega.{arith}
 use lib.ListN.{length, getD, set}
 use lib.Dec.{eqb}
 use borrow.Author.Tests.{eqb-true, eq-eqb}
-use Rattle.collector.specs.Lists.{Every, Nodup, memb, add, gather, different}
-
--- ---- a test, by cases, with the equation
-pub onBool {ℓ} : {P : Type ℓ} (b : Bool) → (b ≡ true → P) → (b ≡ false → P) → P
-onBool true f g = f refl
-onBool false f g = g refl
-
-pub clash : {P : Type 0} {b : Bool} → b ≡ true → b ≡ false → P
-clash p q = let z : _≡_ {A = ℕ} 0 1 = cc in absurd (omega arith)
-
-pub and-true : (a b : Bool) → (a && b) ≡ true → (a ≡ true) × (b ≡ true)
-and-true true b e = (refl, e)
-and-true false b e = clash e refl
-
-pub or-true : (a b : Bool) → (a || b) ≡ true → (a ≡ true) ⊎ (b ≡ true)
-or-true true b e = inl refl
-or-true false b e = inr e
+use Rattle.lists.specs.Lists.{Every, memb}
+use Rattle.lists.proofs.Tests.{onBool, clash}
+use Rattle.collector.specs.Lists.{Nodup, add, gather, different}
 
 -- ---- no element twice
 module _ {A : Type 0} where

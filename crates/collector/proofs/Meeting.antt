@@ -24,7 +24,8 @@ use Rattle.collector.specs.Feed.{Collector, Step, refused, Settled, keyO
 use Rattle.collector.specs.Valid.{KeyOk, PageOk, OpenOk, PlaceOk}
 use Rattle.collector.specs.Image.{padded, keyImage, stateImage, placeImage}
 use Rattle.collector.specs.Steps.{firstIndex, stateFree, sameKeyImage, stateHasKey, State, Does, settledAt, Keeping}
-use Rattle.collector.proofs.Lists.{onBool, nodup-snoc, every-snoc, map-get, every-get}
+use Rattle.lists.proofs.Tests.{onBool}
+use Rattle.collector.proofs.Lists.{nodup-snoc, every-snoc, map-get, every-get}
 use Rattle.collector.proofs.Places.{same-true, keyed-free, is-free, numbers-snoc, numbers-length}
 use Rattle.collector.proofs.Keeps.{JudgedOk, judge-ok, absent-number, hold-full}
 use Rattle.collector.proofs.PageCode.{long-pages}

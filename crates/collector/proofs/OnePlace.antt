@@ -10,11 +10,13 @@ use lib.ListN.{length}
 use lib.Dec.{eqb, leb}
 use borrow.Author.Tests.{leb-true, le-leb, lt-leb, leb-false, eqb-true, eqb-false, eq-eqb}
 use Rattle.pagecode.specs.Page.{legal}
-use Rattle.collector.specs.Lists.{Every, Nodup, memb, add}
+use Rattle.lists.specs.Lists.{Every, memb}
+use Rattle.collector.specs.Lists.{Nodup, add}
 use Rattle.collector.specs.Place.{Held, Place, free, waiting, done, lookup, numbers}
 use Rattle.collector.specs.Feed.{sameOctets, grow, again, arrive}
 use Rattle.collector.specs.Demand.{Message, keyFor, Sound, contentAt, expected}
-use Rattle.collector.proofs.Lists.{length-snoc, every-snoc, onBool, clash, nodup-snoc, mem-memb}
+use Rattle.lists.proofs.Tests.{onBool, clash}
+use Rattle.collector.proofs.Lists.{length-snoc, every-snoc, nodup-snoc, mem-memb}
 use Rattle.collector.proofs.Places.{numbers-length, numbers-snoc}
 use Rattle.collector.proofs.PageCode.{solved, PageOf}
 
@@ -83,7 +85,7 @@ module _ (m : Message) (so : Sound m) (first t : ℕ) (p : Held)
         ≡ record { answer = expected m (numbers (h ∷ hs)) (p .number); place = placeOf m first (addPage p (h ∷ hs)) }
     unfolding arrive again expected addPage
     arrive-repeat ev d e =
-        rw (d, lookup-pages m (p .number) (h ∷ hs) ev, e, page, same-octets (contentAt m (p .number)), d)
+        simp (d, lookup-pages m (p .number) (h ∷ hs) ev, e, page, same-octets (contentAt m (p .number)))
 
     arrive-next : Nodup (numbers (h ∷ hs)) → Every (λ j. legal (m .size) j ≡ true) (numbers (h ∷ hs)) → Every (PageOf m) (h ∷ hs)
         → leb (m .size) (suc (length (numbers hs))) ≡ false → memb (p .number) (numbers (h ∷ hs)) ≡ false

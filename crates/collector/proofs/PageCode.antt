@@ -13,12 +13,14 @@ use Rattle.pagecode.specs.Field.{Octets}
 use Rattle.pagecode.specs.Page.{legal, content}
 use Rattle.pagecode.specs.Solve.{contentsAt, allLegal, isIn, different}
 use Rattle.pagecode.proofs.Promises.{content-length, content-octets, Solvable, solution-only}
-use Rattle.collector.specs.Lists.{Every, Nodup, memb}
+use Rattle.lists.specs.Lists.{Every, memb}
+use Rattle.collector.specs.Lists.{Nodup}
 use Rattle.collector.specs.Place.{Key, Held, numbers, contents}
 use Rattle.collector.specs.Feed.{messageOf}
 use Rattle.collector.specs.Valid.{KeyOk, PageOk}
 use Rattle.collector.specs.Demand.{Message, keyFor, Sound, contentAt}
-use Rattle.collector.proofs.Lists.{onBool, memb-true}
+use Rattle.lists.proofs.Tests.{onBool}
+use Rattle.collector.proofs.Lists.{memb-true}
 use Rattle.collector.proofs.Places.{numbers-length}
 
 -- a page with the content that a message has under its number; and page n as it is held

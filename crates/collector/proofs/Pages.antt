@@ -19,12 +19,12 @@ use Rattle.collector.specs.declared.state.Place.{Place as PlaceImage}
 use Rattle.collector.specs.declared.state.Head.{Head}
 use Rattle.collector.specs.declared.state.Fed.the-variants.{Kept, Ready}
 use Rattle.collector.specs.declared.state.FedHead.{FedHead}
-use Rattle.collector.specs.Lists.{Every}
+use Rattle.lists.specs.Lists.{Every, laid}
 use Rattle.collector.specs.Place.{Key, Held, Place, free, waiting, done, pagesIn, numbers, contents}
 use Rattle.collector.specs.Feed.{Collector, ready, grow, heldOf, messageOf}
 use Rattle.collector.specs.Valid.{PageOk}
 use Rattle.collector.specs.Image.{padded, placeImage, storeImage, headImage}
-use Rattle.collector.specs.Steps.{laid, Does, settledAt, Keeping, Finishing}
+use Rattle.collector.specs.Steps.{Does, settledAt, Keeping, Finishing}
 use Rattle.collector.proofs.Lists.{length-snoc, every-front, every-back, map-set, every-set}
 use Rattle.collector.proofs.Places.{numbers-length}
 use Rattle.collector.proofs.PageCode.{Long, contents-length, long-pages, solvable}

@@ -10,18 +10,17 @@ use lib.Dec.{eqb}
 use borrow.Author.Tests.{eqb-true, eq-eqb}
 use Rattle.collector.specs.Place.{Key, Held, Place, free, waiting, done, sameKey, hasKey, isFree, find, anyFree, replace, over, expire, numbers}
 use Rattle.collector.specs.Valid.{Apart}
-use Rattle.collector.proofs.Lists.{onBool, clash, and-true}
+use Rattle.lists.proofs.Tests.{onBool, clash, and-left, and-right}
 
 -- ---- keys
 pub same-true : (a b : Key) → sameKey a b ≡ true → a ≡ b
 unfolding sameKey
 same-true a b e =
-    let h = and-true (eqb (a .status) (b .status)) _ e in
-    let g = and-true (eqb (a .number) (b .number)) (eqb (a .size) (b .size)) (h .1) in
+    let g = and-right (eqb (a .status) (b .status)) _ e in
     λ i. record {
-      status = eqb-true (a .status) (b .status) (h .0) i;
-      number = eqb-true (a .number) (b .number) (g .0) i;
-      size = eqb-true (a .size) (b .size) (g .1) i;
+      status = eqb-true (a .status) (b .status) (and-left _ _ e) i;
+      number = eqb-true (a .number) (b .number) (and-left _ _ g) i;
+      size = eqb-true (a .size) (b .size) (and-right (eqb (a .number) (b .number)) _ g) i;
     }
 
 pub same-refl : (a : Key) → sameKey a a ≡ true

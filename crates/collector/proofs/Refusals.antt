@@ -12,7 +12,7 @@ use Rattle.refusal.specs.declared.Refusal.the-variants.{Length, Out, Second, Cl
 use Rattle.pagecode.specs.Page.{legal, headerOf, isDummy}
 use Rattle.collector.specs.Place.{Key, Held, Place, free, waiting, done, hasKey, isFree, find, anyFree, replace, lookup}
 use Rattle.collector.specs.Feed.{Collector, Answer, kept, ready, refused, written, Call, tick, Judged, bad, stop, good, judge, sameOctets, grow, again, arrive, hold, received, feed}
-use Rattle.collector.proofs.Lists.{onBool, clash}
+use Rattle.lists.proofs.Tests.{onBool, clash}
 
 -- what a refusal at second t leaves of a collector; none where no feed refuses so
 abbrev pub left : Refusal → ℕ → Collector → Option Collector

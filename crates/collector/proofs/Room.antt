@@ -7,10 +7,12 @@ use Prim.Native.Nat.{ℕ, suc, _+_, _≤_, _<_}
 use native.Mathlib.Omega.{arith}
 use lib.ListN.{length, replicate}
 use borrow.Author.Tests.{le-leb, lt-leb}
-use Rattle.collector.specs.Lists.{Every, Nodup}
+use Rattle.lists.specs.Lists.{Every}
+use Rattle.collector.specs.Lists.{Nodup}
 use Rattle.collector.specs.Place.{Key, Place, free, waiting, done, sameKey, isFree, find, anyFree, over, expire, FirstIs}
 use Rattle.collector.specs.Valid.{Apart}
-use Rattle.collector.proofs.Lists.{onBool, clash, nodup-le}
+use Rattle.lists.proofs.Tests.{onBool, clash}
+use Rattle.collector.proofs.Lists.{nodup-le}
 use Rattle.collector.proofs.Places.{same-refl}
 
 abbrev keysIn : List Place → List Key

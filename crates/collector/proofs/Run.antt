@@ -10,12 +10,14 @@ use lib.ListN.{length, length-map}
 use borrow.Author.Tests.{le-ltb}
 use Rattle.pagecode.specs.Page.{legal}
 use Rattle.pagecode.proofs.Promises.{encoded-length}
-use Rattle.collector.specs.Lists.{Every, Nodup, memb, add, gather}
+use Rattle.lists.specs.Lists.{Every, memb}
+use Rattle.collector.specs.Lists.{Nodup, add, gather}
 use Rattle.collector.specs.Place.{Key, Held, Place, sameKey, isFree, find, numbers, FirstIs}
 use Rattle.collector.specs.Feed.{Collector, Step, fresh, tick, arrive, hold, received, feed, run}
 use Rattle.collector.specs.Valid.{Apart}
 use Rattle.collector.specs.Demand.{Message, keyFor, Sound, Sent, Fed, Of, call, Timed, numbersOf, seen, expected}
-use Rattle.collector.proofs.Lists.{every-snoc, onBool, clash, mem-map, map-inj, gather-snoc, nodup-different}
+use Rattle.lists.proofs.Tests.{onBool, clash}
+use Rattle.collector.proofs.Lists.{every-snoc, mem-map, map-inj, gather-snoc, nodup-different}
 use Rattle.collector.proofs.Places.{same-true, same-refl, same-swap, apart-none}
 use Rattle.collector.proofs.Hold.{every-mono, Holds, hold-law, every-find, every-none, arrive-first}
 use Rattle.collector.proofs.PageCode.{PageOf, pageAt}

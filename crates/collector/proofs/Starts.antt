@@ -15,7 +15,7 @@ use Rattle.collector.specs.declared.state.Collector.{Collector as Collec
 use Rattle.collector.specs.Place.{free}
 use Rattle.collector.specs.Feed.{fresh, startable, startAnswer, begun}
 use Rattle.collector.specs.Image.{placeImage, collectorImage, Made}
-use Rattle.collector.proofs.Lists.{onBool}
+use Rattle.lists.proofs.Tests.{onBool}
 use Rattle.collector.proofs.Keeps.{valid-fresh}
 use Rattle.collector.proofs.Steady.{store-none}
 

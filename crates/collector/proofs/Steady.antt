@@ -23,7 +23,7 @@ use Rattle.collector.specs.Feed.{Collector, refused, Call, Step, tick, k
 use Rattle.collector.specs.Valid.{Valid}
 use Rattle.collector.specs.Image.{padded, keyImage, placeImage, storeImage, headImage, collectorImage, Made, Did, Feeds}
 use Rattle.collector.specs.Steps.{judgedImage, Hold, State, Does}
-use Rattle.collector.proofs.Lists.{onBool}
+use Rattle.lists.proofs.Tests.{onBool}
 use Rattle.collector.proofs.Keeps.{valid-tick, valid-feed}
 use Rattle.collector.proofs.Images.{padded-none}
 

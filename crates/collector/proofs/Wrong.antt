@@ -8,14 +8,16 @@ use native.Mathlib.Omega.{arith}
 use lib.ListN.{replicate}
 use Rattle.refusal.specs.declared.Refusal.the-variants.{Done}
 use Rattle.pagecode.specs.Field.{Octets}
-use Rattle.pagecode.specs.Page.{legal, encodedPage, headerOctets, headerBits}
+use Rattle.pagecode.specs.Page.{legal, content, encodedPage, headerOctets, headerBits}
 use Rattle.pagecode.proofs.Promises.{content-octets}
-use Rattle.collector.specs.Lists.{Every, add}
+use Rattle.lists.specs.Lists.{Every}
+use Rattle.collector.specs.Lists.{add}
 use Rattle.collector.specs.Place.{Key, sameKey}
 use Rattle.collector.specs.Feed.{Collector, Answer, kept, ready, refused, Call, fresh, feed, run}
 use Rattle.collector.specs.Demand.{Message, keyFor, Sound, Sent, Fed, Of, call, Setting, seen, expected, isReady}
 use Rattle.collector.specs.Demand3.{Start, new, used}
-use Rattle.collector.proofs.Lists.{clash, every-mem}
+use Rattle.lists.proofs.Tests.{clash}
+use Rattle.collector.proofs.Lists.{every-mem}
 use Rattle.collector.proofs.Keeps.{valid-fresh, valid-run, clock-run}
 use Rattle.collector.proofs.Demand3Proved.{demand3}
 
@@ -90,12 +92,17 @@ setting-z : Setting ms 60 160 (z ∷ [])
 unfolding ms one legal
 setting-z = record { sent = sent; pages = (record { one = List·Memᴰ·head refl; legal-number = refl }, tt); timed = omega arith }
 
+-- a page's octets, its content shut
+headed : (c : List ℕ) → Octets c → Octets (headerOctets (record { status = 1; reserved = 0; kind = 1; number = 1; size = 1; page = 1 }) ++ c)
+unfolding headerOctets headerBits
+headed c o zero = omega arith
+headed c o (suc zero) = omega arith
+headed c o (suc (suc zero)) = omega arith
+headed c o (suc (suc (suc i))) = o i
+
 octets-a : Octets (call a .page)
-unfolding one encodedPage headerOctets headerBits
-octets-a zero = omega arith
-octets-a (suc zero) = omega arith
-octets-a (suc (suc zero)) = omega arith
-octets-a (suc (suc (suc i))) = content-octets 1 (replicate 53 0) 1 (zeros 53) i
+unfolding one encodedPage
+octets-a = headed (content 1 (replicate 53 0) 1) (content-octets 1 (replicate 53 0) 1 (zeros 53))
 
 -- ---- what a collector took before: nothing, or calls with pages of octets up to a time-out ago
 pub data Earlier (T t₀ : ℕ) : List Call → Type 0 where

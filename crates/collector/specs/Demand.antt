@@ -9,7 +9,8 @@ use lib.Dec.{leb, eqb}
 use Rattle.refusal.specs.declared.Refusal.the-variants.{Done, Repeat}
 use Rattle.pagecode.specs.Field.{Octets}
 use Rattle.pagecode.specs.Page.{legal, content, encodedPage}
-use Rattle.collector.specs.Lists.{Nodup, Every, memb, different}
+use Rattle.lists.specs.Lists.{Every, memb}
+use Rattle.collector.specs.Lists.{Nodup, different}
 use Rattle.collector.specs.Place.{Key, Held, sameKey}
 use Rattle.collector.specs.Feed.{Answer, kept, ready, refused, Call}
 

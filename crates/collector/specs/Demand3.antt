@@ -8,7 +8,7 @@ use mathlib.Core.List.{List, _∷_, _++_, map, List·Memᴰ}
 use mathlib.Core.Option.{none, some}
 use lib.ListN.{length}
 use lib.Dec.{leb}
-use Rattle.collector.specs.Lists.{memb}
+use Rattle.lists.specs.Lists.{memb}
 use Rattle.collector.specs.Place.{Key}
 use Rattle.collector.specs.Feed.{Collector, ready, fresh, feed, run, answers, heldAt}
 use Rattle.collector.specs.Valid.{Valid}

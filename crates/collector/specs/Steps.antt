@@ -14,15 +14,12 @@ use Rattle.collector.specs.declared.state.Head.{Head}
 use Rattle.collector.specs.declared.state.FedHead.{FedHead}
 use Rattle.collector.specs.declared.header.Judged.{Judged as JudgedImage}
 use Rattle.collector.specs.declared.header.Judged.the-variants.{Bad, Stop, Good}
-use Rattle.collector.specs.Lists.{Every, Nodup}
+use Rattle.lists.specs.Lists.{Every}
+use Rattle.collector.specs.Lists.{Nodup}
 use Rattle.collector.specs.Place.{Key, Held, Place, free, waiting, done, over, expire, pagesIn, numbers}
 use Rattle.collector.specs.Feed.{Collector, Step, Settled, Judged, bad, stop, good, written, heldOf}
 use Rattle.collector.specs.Valid.{Valid, KeyOk, PageOk, PlaceOk}
 use Rattle.collector.specs.Image.{padded, keyImage, placeImage, storeImage, headImage, answerImage}
-
--- l laid over d from a place on
-unfoldable pub laid : List ℕ → ℕ → List ℕ → List ℕ
-laid d at l = take at d ++ (l ++ drop (at + length l) d)
 
 -- the place of the first element of which a test holds; the length if there is none
 abbrev pub firstIndex : {A : Type 0} → (A → Bool) → List A → ℕ

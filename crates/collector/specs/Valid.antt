@@ -7,7 +7,8 @@ use mathlib.Core.List.{List, [], _∷_}
 use lib.ListN.{length}
 use Rattle.pagecode.specs.Field.{Octets}
 use Rattle.pagecode.specs.Page.{legal}
-use Rattle.collector.specs.Lists.{Nodup, Every}
+use Rattle.lists.specs.Lists.{Every}
+use Rattle.collector.specs.Lists.{Nodup}
 use Rattle.collector.specs.Place.{Key, Held, Place, free, waiting, done, hasKey, find, numbers, FirstIs}
 use Rattle.collector.specs.Feed.{Collector}
 

@@ -4,7 +4,8 @@ ghost use Prim.Native.Nat.{_+_, _*_, _≤_, _<_};
 ghost use lib.Dec.{eqb};
 ghost use lib.ListN.{drop, length, replicate, take};
 ghost use Rattle.collector.specs.Feed.{sameOctets};
-ghost use Rattle.collector.specs.Steps.{laid, firstIndex};
+ghost use Rattle.lists.specs.Lists.{laid};
+ghost use Rattle.collector.specs.Steps.{firstIndex};
 use crate::state::PLACE_OCTETS;
 use crate::state::STORE_OCTETS;
 

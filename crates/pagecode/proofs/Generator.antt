@@ -14,7 +14,7 @@ use lib.ListN.{length, drop, replicate}
 use Rattle.pagecode.specs.Field.{_⊕_, _⊗_, power, Octets}
 use Rattle.pagecode.specs.Code.{plus, generator, remainder, codeword}
 use Rattle.pagecode.specs.Table42.{table42}
-use Rattle.pagecode.proofs.Tests.{and-left, and-right}
+use Rattle.lists.proofs.Tests.{and-left, and-right}
 use Rattle.pagecode.proofs.Linear.{⊗-add-l, ⊕-self, ⊕-lt, ⊕-zero, swap}
 use Rattle.pagecode.proofs.Laws.{⊗-lt, ⊗-zero, zero-⊗}
 use Rattle.pagecode.proofs.Power.{power-lt, power-add, power-inj, cancel}

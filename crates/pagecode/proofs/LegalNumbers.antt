@@ -12,7 +12,7 @@ use borrow.Author.Tests.{leb-true, eqb-true, eq-eqb, not-true}
 use Rattle.pagecode.specs.Page.{legal}
 use Rattle.pagecode.specs.Encode.{arePages}
 use Rattle.pagecode.specs.Solve.{allLegal, isIn, different}
-use Rattle.pagecode.proofs.Tests.{and-left, and-right, or-cases}
+use Rattle.lists.proofs.Tests.{and-left, and-right, or-cases}
 
 -- a legal number of size k
 pub record Legal (k p : ℕ) : Type 0 where

@@ -1,5 +1,4 @@
--- Tests
-mod Tests
+-- Entries of a table
 mod Everywhere
 -- The field
 mod Xor

@@ -6,10 +6,16 @@ use lib.ListN.{getD}
 use Rattle.pagecode.specs.Field.{_⊗_}
 use Rattle.pagecode.specs.Page.{legal, headerOctets, headerOf, isDummy}
 use Rattle.pagecode.proofs.Worked.{one-octet, last-pages}
+use Rattle.collector.specs.Feed.{judge}
+use Rattle.bits.specs.Bits.{bits, value, bitsOf, octets, octetsOf}
+use Rattle.mt1.specs.Parse.{_>>=_, ret, raw, field, judged, times, forEach, systems, wrongId}
+use Rattle.mt1.specs.Message.{count, countBefore, cellsOf}
+use Rattle.mt1.specs.Mt1.{header, system, counted, mask, interval, block, clocks, used, lentFor, behind, message}
+use Rattle.mt1.specs.Records.{signedOr, widened, at, ofSystem, ofId, subsetClock, headerRecord, systemRecord, satelliteRecord, cellRecord, build, cellPlace, cellRecords, satelliteRecords, systemRecords, records}
 use Rattle.worked.specs.Table.{CheckedByHand}
 
 pub checked-by-hand : CheckedByHand
-unfolding _⊗_ legal headerOctets headerOf isDummy
+unfolding _⊗_ legal headerOctets headerOf isDummy judge raw field judged times forEach systems wrongId _>>=_ ret bits value bitsOf octets octetsOf count countBefore cellsOf header system counted mask block interval clocks used lentFor behind message signedOr widened at ofSystem ofId subsetClock headerRecord systemRecord satelliteRecord cellRecord build cellPlace cellRecords satelliteRecords systemRecords records
 checked-by-hand = record {
   sixteen = refl;
   inverses = refl;
@@ -22,9 +28,13 @@ checked-by-hand = record {
   header-read = refl;
   header-written = refl;
   dummy = refl;
+  dummy-judged = λ content. refl;
   dummy-page = refl;
   size-1-page-2 = refl;
   size-1-page-33 = refl;
   size-32-page-32 = refl;
   size-32-page-0 = refl;
+  message-header = refl;
+  time-3600 = refl;
+  listing = refl;
 }

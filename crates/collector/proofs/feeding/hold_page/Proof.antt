@@ -22,7 +22,7 @@ meet-page-requires c κs =
     let q = start .pre in
     let m = q .4 in
     let e = f .find-place .ensures ∙ key-first (m .1) (a .key) (keyOf (a .page .now)) (q .0) in (
-      c .before .before .if1 .taken,
+      search needs,
       q .1,
       q .2,
       q .3,

@@ -2,6 +2,7 @@
 -- The number is found at the index of the page that the model looks up, whose content stands at that index of the place's part of the store.
 use mathlib.Core.Bool.{true, false}
 use mathlib.Core.Path.{sym, ap, _∙_}
+use Prim.Native.Nat.{_<_}
 use native.Mathlib.Omega.{arith}
 use lib.ListN.{getD}
 use borrow.Author.Needs.{needs}
@@ -10,10 +11,24 @@ use Rattle.collector.specs.Place.{free}
 use Rattle.collector.specs.Feed.{keyOf, heldOf}
 use Rattle.collector.specs.Image.{keyImage}
 use Rattle.collector.specs.Steps.{stateHasKey, settledAt}
-use Rattle.collector.proofs.Lists.{clash}
+use Rattle.lists.proofs.Tests.{clash}
 use Rattle.collector.proofs.Meeting.{does-as, store-long, same-key, key-at, done-at, open-at, seen-few, refuses-at, found-lt, joining, arrive-done, arrive-new, arrive-again}
 use Rattle.collector.proofs.feeding.meet_page.Statement.{statement}
 use Rattle.collector.proofs.feeding.meet_page.Tie as tie
+
+-- the call that looked for the number
+abbrev start : tie.After-find-number → tie.Start
+start f = f .before .before .before .before .before .before .before .before .before .before .before
+
+-- a number that is found is one of the first 31
+found-few : (e : tie.Else1) → e .before .find-number .result < 31
+found-few e =
+    let f = e .before in
+    let a = start f .args in
+    let q = start f .pre in
+    let w = open-at (q .4 .1) (a .i) (q .0) (f .before .before .before .before .state .given .1) in
+    let l = found-lt (a .page .now) (λ i. f .before .shared-slice-known2 .given i .fits) (q .1) (q .3) (q .4 .1) (a .i) (q .0) (q .4 .2) w (f .find-number .result) (f .find-number .ensures) (e .if1 .left) in
+    omega (arith, l, seen-few w)
 
 mul-place : tie.Need-mul-place
 mul-place c = search needs
@@ -51,11 +66,9 @@ find-number-requires c κs =
 keep-page-requires : tie.Need-keep-page-requires
 keep-page-requires c κs =
     let f = c .before .before .before in
-    let u = f .before .before .before .before in
-    let start = u .before .before .before .before .before .before .before in
-    let a = start .args in
-    let q = start .pre in
-    let w = open-at (q .4 .1) (a .i) (q .0) (u .state .given .1) in (
+    let a = start f .args in
+    let q = start f .pre in
+    let w = open-at (q .4 .1) (a .i) (q .0) (f .before .before .before .before .state .given .1) in (
       q .4 .0,
       w .of,
       w .pages,
@@ -73,11 +86,9 @@ returns : tie.Need-returns
 returns c = λ m s t.
     let d = c .before .before .before .before in
     let f = d .before .before .before .before in
-    let u = f .before .before .before .before in
-    let start = u .before .before .before .before .before .before .before in
-    let a = start .args in
-    let q = start .pre in
-    let w = open-at s (a .i) (q .0) (u .state .given .1) in
+    let a = start f .args in
+    let q = start f .pre in
+    let w = open-at s (a .i) (q .0) (f .before .before .before .before .state .given .1) in
     let same = same-key (q .4 .1) s (a .i) (q .0) (keyOf (a .page .now)) (q .4 .2) in
     let e = sym (d .before .before .before .if1 .taken) ∙ f .find-number .ensures in
     does-as
@@ -89,37 +100,15 @@ mul-is-same-content : tie.Need-mul-is-same-content
 mul-is-same-content c = search needs
 
 mul-is-same-content-2 : tie.Need-mul-is-same-content-2
-mul-is-same-content-2 c =
-    let f = c .before .before in
-    let u = f .before .before .before .before in
-    let start = u .before .before .before .before .before .before .before in
-    let a = start .args in
-    let q = start .pre in
-    let w = open-at (q .4 .1) (a .i) (q .0) (u .state .given .1) in
-    let l = found-lt (a .page .now) (λ i. f .before .shared-slice-known2 .given i .fits) (q .1) (q .3) (q .4 .1) (a .i) (q .0) (q .4 .2) w (f .find-number .result) (f .find-number .ensures) (c .before .if1 .left) in
-    omega (arith, l, seen-few w)
+mul-is-same-content-2 c = omega (arith, found-few (c .before))
 
 add-is-same-content : tie.Need-add-is-same-content
-add-is-same-content c =
-    let f = c .before .before in
-    let u = f .before .before .before .before in
-    let start = u .before .before .before .before .before .before .before in
-    let a = start .args in
-    let q = start .pre in
-    let w = open-at (q .4 .1) (a .i) (q .0) (u .state .given .1) in
-    let l = found-lt (a .page .now) (λ i. f .before .shared-slice-known2 .given i .fits) (q .1) (q .3) (q .4 .1) (a .i) (q .0) (q .4 .2) w (f .find-number .result) (f .find-number .ensures) (c .before .if1 .left) in
-    omega (arith, l, seen-few w, q .0)
+add-is-same-content c = omega (arith, found-few (c .before), start (c .before .before) .pre .0)
 
 is-same-content-requires : tie.Need-is-same-content-requires
 is-same-content-requires c κs =
-    let f = c .before .before in
-    let u = f .before .before .before .before in
-    let start = u .before .before .before .before .before .before .before in
-    let a = start .args in
-    let q = start .pre in
-    let w = open-at (q .4 .1) (a .i) (q .0) (u .state .given .1) in
-    let l = found-lt (a .page .now) (λ i. f .before .shared-slice-known2 .given i .fits) (q .1) (q .3) (q .4 .1) (a .i) (q .0) (q .4 .2) w (f .find-number .result) (f .find-number .ensures) (c .before .if1 .left) in
-    (store-long (q .4 .1), omega (arith, l, seen-few w, q .0), q .1)
+    let q = start (c .before .before) .pre in
+    (store-long (q .4 .1), omega (arith, found-few (c .before), q .0), q .1)
 
 refuse-requires-3 : tie.Need-refuse-requires-3
 refuse-requires-3 c κs = search needs
@@ -131,11 +120,9 @@ returns-2 : tie.Need-returns-2
 returns-2 c = λ m s t.
     let x = c .before .before in
     let f = x .before .before .before in
-    let u = f .before .before .before .before in
-    let start = u .before .before .before .before .before .before .before in
-    let a = start .args in
-    let q = start .pre in
-    let w = open-at s (a .i) (q .0) (u .state .given .1) in
+    let a = start f .args in
+    let q = start f .pre in
+    let w = open-at s (a .i) (q .0) (f .before .before .before .before .state .given .1) in
     let same = same-key (q .4 .1) s (a .i) (q .0) (keyOf (a .page .now)) (q .4 .2) in
     refuses-at s Repeat (a .out .now) (c .refuse3 .result) (c .refuse3 .ensures) (a .i) _
     (arrive-again (a .page .now) (λ i. f .before .shared-slice-known2 .given i .fits) (q .1) (q .3) s (a .i) (q .0) same w t (f .find-number .result) true (f .find-number .ensures) (x .before .before .if1 .left)
@@ -168,11 +155,9 @@ returns-5 : tie.Need-returns-5
 returns-5 c = λ m s t.
     let x = c .before .before in
     let f = x .before .before .before in
-    let u = f .before .before .before .before in
-    let start = u .before .before .before .before .before .before .before in
-    let a = start .args in
-    let q = start .pre in
-    let w = open-at s (a .i) (q .0) (u .state .given .1) in
+    let a = start f .args in
+    let q = start f .pre in
+    let w = open-at s (a .i) (q .0) (f .before .before .before .before .state .given .1) in
     let same = same-key (q .4 .1) s (a .i) (q .0) (keyOf (a .page .now)) (q .4 .2) in
     refuses-at s Conflict (a .out .now) (c .refuse4 .result) (c .refuse4 .ensures) (a .i) _
     (arrive-again (a .page .now) (λ i. f .before .shared-slice-known2 .given i .fits) (q .1) (q .3) s (a .i) (q .0) same w t (f .find-number .result) false (f .find-number .ensures) (x .before .before .if1 .left)

@@ -3,8 +3,8 @@ use mathlib.Core.Path.{_≡_, refl, sym, _∙_}
 use Prim.Native.Nat.{_*_, _-_, _≤_}
 use lib.ListN.{length, take, replicate, getD-replicate, length-set}
 use borrow.Author.Needs.{needs}
-use Rattle.collector.specs.Steps.{laid}
-use Rattle.collector.proofs.Laid.{laid-none, laid-next, laid-all}
+use Rattle.lists.specs.Lists.{laid}
+use Rattle.lists.proofs.Laid.{laid-none, laid-next, laid-all}
 use Rattle.collector.proofs.store.clear_place.Statement.{statement}
 use Rattle.collector.proofs.store.clear_place.Tie as tie
 
@@ -38,7 +38,7 @@ loop-again c =
     let l = c .before .loop in (
       search needs,
       length-set (l .store) _ _ ∙ l .inv .1,
-      laid-next (a .store .now) (a .i * 1696) (replicate 1696 0) (l .store) (l .j) _ 0 refl (sym (getD-replicate 1696 (l .j) 0 0 (search needs))) (search needs) (search needs) (l .inv .2),
+      laid-next 0 (a .store .now) (a .i * 1696) (replicate 1696 0) (l .store) (l .j) _ 0 refl (sym (getD-replicate 1696 (l .j) 0 0 (search needs))) (search needs) (search needs) (l .inv .2),
     )
 
 same-length : tie.Need-same-length Inv-loop μ-loop

@@ -4,8 +4,8 @@ use Prim.Native.Nat.{_-_, _≤_}
 use native.Mathlib.Nat.{zero-add}
 use lib.ListN.{length, take, replicate, getD-replicate, length-set}
 use borrow.Author.Needs.{needs}
-use Rattle.collector.specs.Steps.{laid}
-use Rattle.collector.proofs.Laid.{laid-none, laid-next, laid-all, laid-over}
+use Rattle.lists.specs.Lists.{laid}
+use Rattle.lists.proofs.Laid.{laid-none, laid-next, laid-all, laid-over}
 use Rattle.collector.proofs.store.clear_store.Statement.{statement}
 use Rattle.collector.proofs.store.clear_store.Tie as tie
 
@@ -33,7 +33,7 @@ loop-again c =
     let l = c .before .loop in (
       search needs,
       length-set (l .store) _ _ ∙ l .inv .1,
-      laid-next (a .store .now) 0 (replicate 13568 0) (l .store) (l .j) _ 0 (sym (zero-add (l .j))) (sym (getD-replicate 13568 (l .j) 0 0 (search needs))) (search needs) (search needs) (l .inv .2),
+      laid-next 0 (a .store .now) 0 (replicate 13568 0) (l .store) (l .j) _ 0 (sym (zero-add (l .j))) (sym (getD-replicate 13568 (l .j) 0 0 (search needs))) (search needs) (search needs) (l .inv .2),
     )
 
 same-length : tie.Need-same-length Inv-loop μ-loop

@@ -7,8 +7,8 @@ use native.Mathlib.Omega.{arith}
 use lib.ListN.{length, getD, take, drop, replicate, length-drop}
 use lib.Seq.{getD-take, getD-drop, length-take-le}
 use borrow.Author.Needs.{needs}
-use Rattle.collector.specs.Steps.{laid}
-use Rattle.collector.proofs.Laid.{laid-none, laid-next, laid-all, laid-over}
+use Rattle.lists.specs.Lists.{laid}
+use Rattle.lists.proofs.Laid.{laid-none, laid-next, laid-all, laid-over}
 use Rattle.collector.proofs.store.place_octets.Statement.{statement}
 use Rattle.collector.proofs.store.place_octets.Tie as tie
 
@@ -55,7 +55,7 @@ loop-again c =
     let l = c .before .before .loop in
     let long = part-length (a .store .now) (a .i) (search needs) (search needs) in
     let here = part-get (a .store .now) (a .i) (search needs) (search needs) (l .j) (search needs) in
-    (search needs, laid-next (replicate 1696 0) 0 (part (a .store .now) (a .i)) (l .octets) (l .j) _ _ (sym (zero-add (l .j))) here (search needs) (omega (arith, long)) (l .inv .1))
+    (search needs, laid-next 0 (replicate 1696 0) 0 (part (a .store .now) (a .i)) (l .octets) (l .j) _ _ (sym (zero-add (l .j))) here (search needs) (omega (arith, long)) (l .inv .1))
 
 returns : tie.Need-returns Inv-loop μ-loop
 returns c =

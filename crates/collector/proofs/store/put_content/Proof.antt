@@ -4,8 +4,8 @@ use Prim.Native.Nat.{_-_, _≤_}
 use lib.ListN.{length, drop, take, length-drop, length-set}
 use lib.Seq.{getD-drop}
 use borrow.Author.Needs.{needs}
-use Rattle.collector.specs.Steps.{laid}
-use Rattle.collector.proofs.Laid.{laid-none, laid-next, laid-all}
+use Rattle.lists.specs.Lists.{laid}
+use Rattle.lists.proofs.Laid.{laid-none, laid-next, laid-all}
 use Rattle.collector.proofs.store.put_content.Statement.{statement}
 use Rattle.collector.proofs.store.put_content.Tie as tie
 
@@ -42,7 +42,7 @@ loop-again c =
     let l = c .before .before .loop in (
       search needs,
       length-set (l .store) _ _ ∙ l .inv .1,
-      laid-next (a .store .now) (a .at) (drop 3 (a .page .now)) (l .store) (l .j) _ _ refl (sym (getD-drop 3 (a .page .now) (l .j) 0)) (search needs) (simp length-drop (search needs)) (l .inv .2),
+      laid-next 0 (a .store .now) (a .at) (drop 3 (a .page .now)) (l .store) (l .j) _ _ refl (sym (getD-drop 3 (a .page .now) (l .j) 0)) (search needs) (simp length-drop (search needs)) (l .inv .2),
     )
 
 same-length : tie.Need-same-length Inv-loop μ-loop

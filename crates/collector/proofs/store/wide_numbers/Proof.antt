@@ -4,8 +4,8 @@ use Prim.Native.Nat.{_-_, _≤_}
 use native.Mathlib.Nat.{zero-add}
 use lib.ListN.{take, replicate}
 use borrow.Author.Needs.{needs}
-use Rattle.collector.specs.Steps.{laid}
-use Rattle.collector.proofs.Laid.{laid-none, laid-next, laid-all, laid-over}
+use Rattle.lists.specs.Lists.{laid}
+use Rattle.lists.proofs.Laid.{laid-none, laid-next, laid-all, laid-over}
 use Rattle.collector.proofs.store.wide_numbers.Statement.{statement}
 use Rattle.collector.proofs.store.wide_numbers.Tie as tie
 
@@ -40,7 +40,7 @@ loop-again : tie.Need-loop-again Inv-loop μ-loop
 loop-again c =
     let a = c .before .before .args in
     let l = c .before .loop in
-    (search needs, laid-next (replicate 32 0) 0 (a .t1) (l .wide) (l .i) _ _ (sym (zero-add (l .i))) refl (search needs) (search needs) (l .inv .1))
+    (search needs, laid-next 0 (replicate 32 0) 0 (a .t1) (l .wide) (l .i) _ _ (sym (zero-add (l .i))) refl (search needs) (search needs) (l .inv .1))
 
 returns : tie.Need-returns Inv-loop μ-loop
 returns c =

@@ -1,5 +1,6 @@
-/* Times encode_page and solve at size 32: all 32 pages from the parity part, fresh random data in every round, each result compared with the
-   message sent. With ISAL the same work by ISA-L: a 32 by 32 matrix inverted, its tables made, 32 rows multiplied; its matrix is given. */
+/* Times encode_page, solve and the collector's feeds at size 32: all 32 pages from the parity part, fresh random data in every round, each result
+   compared with the message sent. A KEPT is a 31st of what 31 pages take more than none, a READY what the 32nd takes; a copy is memcpy of a collector.
+   With ISAL the same work by ISA-L: a 32 by 32 matrix inverted, its tables made, 32 rows multiplied; its matrix is given. */
 #include <stdint.h>
 #include <stdio.h>
 #include <stdlib.h>
@@ -9,10 +10,12 @@
 #include <isa-l.h>
 #endif
 
-enum { ROUNDS = 2000, SIZE = 32, CONTENT = 53, MESSAGE = 1696, PAGE = 56 };
+enum { ROUNDS = 2000, SIZE = 32, CONTENT = 53, MESSAGE = 1696, PAGE = 56, COLLECTOR = 14000 };
 
 uint64_t timed_encode(const uint8_t *message, size_t n, uint64_t status, uint64_t number, uint64_t page, uint8_t *out, size_t m);
 uint64_t timed_solve(const uint8_t *contents, size_t n, const uint64_t *numbers, size_t k, uint8_t *out, size_t m);
+void timed_feeds(const uint8_t *pages, size_t n, uint8_t *out, size_t m);
+void timed_feeds_in_place(const uint8_t *pages, size_t n, uint8_t *out, size_t m);
 
 static double micros(void) {
     struct timespec t;
@@ -35,7 +38,7 @@ static int by_size(const void *a, const void *b) {
 
 static void report(const char *what, double *t) {
     qsort(t, ROUNDS, sizeof *t, by_size);
-    printf("%-28s median %8.2f us   least %8.2f us\n", what, t[ROUNDS / 2], t[0]);
+    printf("%-28s median %8.3f us   best tenth %8.3f us\n", what, t[ROUNDS / 2], t[ROUNDS / 10]);
 }
 
 /* 32 different numbers of the parity part */
@@ -52,8 +55,34 @@ static void choose(uint64_t *numbers) {
 
 static double encoded[ROUNDS], solved[ROUNDS];
 
+/* a round of feeds to a fresh collector: none, 31, all 32 */
+struct feeds {
+    void (*call)(const uint8_t *pages, size_t n, uint8_t *out, size_t m);
+    double kept[ROUNDS], ready[ROUNDS];
+};
+static struct feeds by_value = {timed_feeds}, in_place = {timed_feeds_in_place};
+
+static int feed(struct feeds *f, int n, const uint8_t *pages, const uint8_t *message) {
+    uint8_t out[MESSAGE] = {0};
+    double t[4];
+    t[0] = micros();
+    f->call(pages, 0, out, MESSAGE);
+    t[1] = micros();
+    f->call(pages, PAGE * (SIZE - 1), out, MESSAGE);
+    t[2] = micros();
+    int early = memcmp(out, message, MESSAGE) == 0;
+    f->call(pages, PAGE * SIZE, out, MESSAGE);
+    t[3] = micros();
+    f->kept[n] = (t[2] - t[1] - (t[1] - t[0])) / (SIZE - 1);
+    f->ready[n] = t[3] - t[2] - (t[2] - t[1]);
+    return early + (memcmp(out, message, MESSAGE) != 0);
+}
+
+static uint8_t one[COLLECTOR], other[COLLECTOR];
+static double copied[ROUNDS];
+
 int main(void) {
-    uint8_t message[MESSAGE], contents[MESSAGE], out[MESSAGE], page[PAGE];
+    uint8_t message[MESSAGE], contents[MESSAGE], out[MESSAGE], pages[SIZE][PAGE];
     uint64_t numbers[SIZE];
     int wrong = 0;
     for (int n = 0; n < ROUNDS; n++) {
@@ -61,18 +90,31 @@ int main(void) {
         choose(numbers);
         for (int i = 0; i < SIZE; i++) {
             double start = micros();
-            wrong += timed_encode(message, MESSAGE, 1, 3, numbers[i], page, PAGE) != 0;
+            wrong += timed_encode(message, MESSAGE, 1, 3, numbers[i], pages[i], PAGE) != 0;
             encoded[n] = micros() - start;
-            memcpy(contents + CONTENT * i, page + 3, CONTENT);
+            memcpy(contents + CONTENT * i, pages[i] + 3, CONTENT);
         }
         double start = micros();
         wrong += timed_solve(contents, MESSAGE, numbers, SIZE, out, MESSAGE) != 0;
         solved[n] = micros() - start;
         wrong += memcmp(out, message, MESSAGE) != 0;
+        wrong += feed(&by_value, n, pages[0], message) + feed(&in_place, n, pages[0], message);
+        one[n % COLLECTOR] = n;
+        start = micros();
+        for (int i = 0; i < 100; i++) {
+            memcpy(i % 2 ? one : other, i % 2 ? other : one, COLLECTOR);
+            __asm__ volatile("" ::: "memory");
+        }
+        copied[n] = (micros() - start) / 100;
     }
     printf("size 32, %d rounds, %d wrong\n", ROUNDS, wrong);
     report("encode_page, one page", encoded);
     report("solve", solved);
+    report("KEPT, by value", by_value.kept);
+    report("READY, by value", by_value.ready);
+    report("KEPT, in place", in_place.kept);
+    report("READY, in place", in_place.ready);
+    report("a copy of 14,000 octets", copied);
 #ifdef ISAL
     static uint8_t rows[255 * SIZE], tables[32 * SIZE * SIZE], in[SIZE][64], back[SIZE][64];
     uint8_t *from[SIZE], *to[SIZE];

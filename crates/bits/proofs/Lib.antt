@@ -1,0 +1,5 @@
+pub mod Values
+pub mod Octets
+pub mod Runs
+pub mod Puts
+mod Setting

@@ -1,0 +1,11 @@
+pub mod Parse
+pub mod Message
+pub mod Mt1
+pub mod Encode
+pub mod Valid
+pub mod Inverse
+pub mod Records
+pub mod Signed
+pub mod Absent
+pub mod Interval
+pub mod Time
