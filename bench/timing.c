@@ -1,5 +1,6 @@
-/* Times encode_page, solve and the collector's feeds at size 32: all 32 pages from the parity part, fresh random data in every round, each result
+/* Times encode_page, solve, the collector's feeds and the reader at size 32: all 32 pages from the parity part, fresh random data in every round, each result
    compared with the message sent. A KEPT is a 31st of what 31 pages take more than none, a READY what the 32nd takes; a copy is memcpy of a collector.
+   The message that is read has two systems, 80 satellites, 320 cells, and all blocks but the subset: 12,590 bits, 403 records.
    With ISAL the same work by ISA-L: a 32 by 32 matrix inverted, its tables made, 32 rows multiplied; its matrix is given. */
 #include <stdint.h>
 #include <stdio.h>
@@ -16,6 +17,8 @@ uint64_t timed_encode(const uint8_t *message, size_t n, uint64_t status, uint64_
 uint64_t timed_solve(const uint8_t *contents, size_t n, const uint64_t *numbers, size_t k, uint8_t *out, size_t m);
 void timed_feeds(const uint8_t *pages, size_t n, uint8_t *out, size_t m);
 void timed_feeds_in_place(const uint8_t *pages, size_t n, uint8_t *out, size_t m);
+
+uint64_t timed_read(const uint8_t *message, size_t n, uint8_t *records, size_t m);
 
 static double micros(void) {
     struct timespec t;
@@ -78,8 +81,34 @@ static int feed(struct feeds *f, int n, const uint8_t *pages, const uint8_t *mes
     return early + (memcmp(out, message, MESSAGE) != 0);
 }
 
+/* a message of type 1 with random values */
+static uint8_t full[MESSAGE], records[21808];
+static int bit;
+static void put(uint64_t v, int n) {
+    while (n--) {
+        full[bit / 8] |= (v >> n & 1) << (7 - bit % 8);
+        bit++;
+    }
+}
+static void fill(void) {
+    memset(full, 0, MESSAGE);
+    bit = 0;
+    put(1234, 12), put(0x3B, 6), put(0, 4), put(5, 5), put(9, 5);
+    put(2, 4);
+    for (int id = 0; id <= 2; id += 2) put(id, 4), put(0xFFFFFFFFFF, 40), put(0xA900, 16), put(0, 1), put(0, 3);
+    put(0, 6);
+    put(5, 4);
+    for (int i = 0; i < 80; i++) put(next_random(), i < 40 ? 8 : 10), put(next_random(), 13), put(next_random(), 12), put(next_random(), 12);
+    put(5, 4), put(next_random(), 4);
+    for (int i = 0; i < 80; i++) put(next_random(), 13);
+    put(5, 4);
+    for (int i = 0; i < 320; i++) put(next_random(), 11);
+    put(5, 4);
+    for (int i = 0; i < 320; i++) put(next_random(), 13);
+}
+
 static uint8_t one[COLLECTOR], other[COLLECTOR];
-static double copied[ROUNDS];
+static double copied[ROUNDS], reads[ROUNDS];
 
 int main(void) {
     uint8_t message[MESSAGE], contents[MESSAGE], out[MESSAGE], pages[SIZE][PAGE];
@@ -99,6 +128,10 @@ int main(void) {
         solved[n] = micros() - start;
         wrong += memcmp(out, message, MESSAGE) != 0;
         wrong += feed(&by_value, n, pages[0], message) + feed(&in_place, n, pages[0], message);
+        fill();
+        start = micros();
+        wrong += timed_read(full, MESSAGE, records, sizeof records) != 403;
+        reads[n] = micros() - start;
         one[n % COLLECTOR] = n;
         start = micros();
         for (int i = 0; i < 100; i++) {
@@ -114,6 +147,7 @@ int main(void) {
     report("READY, by value", by_value.ready);
     report("KEPT, in place", in_place.kept);
     report("READY, in place", in_place.ready);
+    report("read, 403 records", reads);
     report("a copy of 14,000 octets", copied);
 #ifdef ISAL
     static uint8_t rows[255 * SIZE], tables[32 * SIZE * SIZE], in[SIZE][64], back[SIZE][64];

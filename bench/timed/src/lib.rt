@@ -1,6 +1,7 @@
 // What the timing calls: the proved calls, on numbers and octets.
 ghost use mathlib.Core.Path.{_≡_};
 use collector::TIMEOUT;
+use reader::ReadAnswer;
 
 #[no_mangle]
 pub extern "C" fn timed_encode(message: &[u8], status: u64, number: u64, page: u64, out: &mut [u8]) -> u64 {
@@ -36,5 +37,16 @@ pub extern "C" fn timed_feeds_in_place(pages: &[u8], out: &mut [u8]) {
         let fed = collector::feed_in_place(head, &mut c.store, 100, &pages[i..i + 56], out);
         head = fed.head;
         i += 56;
+    }
+}
+
+// How many records a message has; 0 if it is refused.
+#[no_mangle]
+pub extern "C" fn timed_read(message: &[u8], records: &mut [u8]) -> u64 {
+    let none = [0u8; 0];
+    let answer = reader::read(message, 0, &none, records);
+    match answer {
+        ReadAnswer::Records(n) => n,
+        ReadAnswer::Refused(_) => 0,
     }
 }

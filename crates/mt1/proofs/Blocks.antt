@@ -65,7 +65,7 @@ pub record Masked (ss : List System) : Type 0 where
   pub few : length ss ≤ 2
   pub ids : IdsOk known [] (ids ss)
 
-ids-small : (came : List ℕ) (l : List ℕ) → IdsOk known came l → Every (λ i. i < 2 ^ 4) l
+pub ids-small : (came : List ℕ) (l : List ℕ) → IdsOk known came l → Every (λ i. i < 2 ^ 4) l
 ids-small came [] o = tt
 ids-small came (i ∷ l) o = (memb-every (λ i. i < 2 ^ 4) known i known-small (o .0), ids-small (i ∷ came) l (o .2))
 

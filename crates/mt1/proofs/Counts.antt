@@ -1,14 +1,14 @@
 -- The number of records is what the mask says: a header's, and of each system its own, its satellites' and its cells'.
 -- Index by index, what has come is as many satellites as are masked before it, and as many cells as their rows have.
-use mathlib.Core.Path.{_≡_, refl, sym, ap, ap₂, _∙_}
-use mathlib.Core.Bool.{Bool, true, false, _&&_, cond}
+use mathlib.Core.Path.{_≡_, refl, sym, ap, _∙_}
+use mathlib.Core.Bool.{Bool, true, false, cond}
 use mathlib.Core.List.{List, [], _∷_, _++_}
 use mathlib.Core.Option.{Option, none, some}
-use Prim.Native.Nat.{ℕ, zero, suc, _+_, _*_, _/_, _≤_, _<_}
+use Prim.Native.Nat.{ℕ, zero, suc, _+_, _*_, _≤_}
 use native.Mathlib.Nat.{add-zero, zero-add, zero-mul, suc-mul, mul-le-mul}
 use native.Mathlib.Omega.{arith}
 use lib.Dec.{eqb}
-use lib.ListN.{length, getD, take, replicate, length-append, length-replicate}
+use lib.ListN.{length, getD, length-append, length-replicate}
 use lib.Seq.{take-all, take-nil}
 use Rattle.lists.specs.Lists.{Every}
 use Rattle.lists.proofs.Tests.{onBool}
@@ -136,14 +136,24 @@ pub length-records : (m : Message) (ss : List System) → Every SystemOk ss → 
 unfolding records
 length-records m ss o = omega (arith, length-append (headerRecord m) (systemRecords m 0 ss), length-header m, length-systems m 0 ss o)
 
--- 21,808 octets are room for all of them
-few : (s : System) → SystemOk s → count (s .satellites) + count (cellsOf s) ≤ 680
-few s o =
-    let a : count (s .satellites) ≤ 40 = omega (arith, count-le (s .satellites), o .satellites) in
-    let b : count (s .signals) ≤ 16 = omega (arith, count-le (s .signals), o .signals) in
-    let c : cellBits (s .satellites) (s .signals) ≤ 40 * 16 = mul-le-mul a b in
-    omega (arith, a, count-le (cellsOf s), length-cellsOf s o, c)
+-- ---- how many there are at most
+module _ (s : System) (o : SystemOk s) where
+  pub satellites-few : count (s .satellites) ≤ 40
+  satellites-few = omega (arith, count-le (s .satellites), o .satellites)
 
+  pub signals-few : count (s .signals) ≤ 16
+  signals-few = omega (arith, count-le (s .signals), o .signals)
+
+  pub bits-few : cellBits (s .satellites) (s .signals) ≤ 640
+  bits-few = mul-le-mul satellites-few signals-few
+
+  pub count-cells : count (cellsOf s) ≤ 640
+  count-cells = omega (arith, count-le (cellsOf s), length-cellsOf s o, bits-few)
+
+  few : count (s .satellites) + count (cellsOf s) ≤ 680
+  few = omega (arith, satellites-few, count-cells)
+
+-- 21,808 octets are room for all of them
 pub room-for-records : (m : Message) (ss : List System) → length ss ≤ 2 → Every SystemOk ss → length (records ss m) ≤ 21808
 unfolding recordCount
 room-for-records m [] h o = omega (arith, length-records m [] o)

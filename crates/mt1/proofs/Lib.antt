@@ -1,6 +1,6 @@
 pub mod Spans
 pub mod Combinators
-mod Several
+pub mod Several
 pub mod Masks
 pub mod Blocks
 pub mod Inverted

@@ -77,7 +77,7 @@ forEach-reads {A = A} {Ok = Ok} {enc} (s ∷ ss) P = reads-ok to from (reads-bit
     same [] = refl
     same (x ∷ xs) = refl
 
-each-of : {S A : Type 0} (Ok : S → A → Type 0) (f : A → List Bool) (ss : List S) (xs : List A) → EachOf Ok ss xs → eachOf (λ s. f) ss xs ≡ each f xs
+pub each-of : {S A : Type 0} (Ok : S → A → Type 0) (f : A → List Bool) (ss : List S) (xs : List A) → EachOf Ok ss xs → eachOf (λ s. f) ss xs ≡ each f xs
 unfolding each eachOf
 each-of Ok f [] [] o = refl
 each-of Ok f [] (x ∷ xs) o = absurd o
@@ -107,7 +107,7 @@ optional-reads {A} {Ok = Ok} {enc} false P = reads-bits bare (reads-ok (λ b e. 
     bare (some x) o = absurd o
 
 -- ---- systems by GNSS ID
-wrong-none : (may came : List ℕ) (id : ℕ) → wrongId may came id ≡ none → (memb id may ≡ true) × (memb id came ≡ false)
+pub wrong-none : (may came : List ℕ) (id : ℕ) → wrongId may came id ≡ none → (memb id may ≡ true) × (memb id came ≡ false)
 unfolding wrongId
 wrong-none may came id = onBool (memb id may)
     (λ m. onBool (memb id came) (λ c. rw (m, c) λ e. absurd (some-none e)) (λ c. rw (m, c) λ e. (refl, refl)))

@@ -1,16 +1,13 @@
 -- Where the bits of something stand in a bit string: from a place up to another.
 -- Such stretches are joined and split as lists are appended, by the laws of `take` and `drop`.
-use Prim.Native.Nat.{ℕ, zero, suc, _+_, _*_, _^_, _≤_, _<_}
-use native.Mathlib.Nat.{add-zero, zero-add, mul-zero, mul-suc, mod-eq-of-lt}
+use Prim.Native.Nat.{ℕ, zero, suc, _+_, _*_, _≤_, _<_}
+use native.Mathlib.Nat.{add-zero, zero-add, mul-zero, mul-suc}
 use native.Mathlib.Omega.{arith}
 use mathlib.Core.Bool.{Bool}
 use mathlib.Core.List.{List, [], _∷_, _++_}
 use mathlib.Core.Path.{_≡_, refl, sym, ap, ap₂, _∙_}
 use lib.ListN.{length, getD, take, drop, length-append, length-take, length-drop, take-append-drop}
 use lib.Seq.{take-at, drop-at, take-add, drop-drop, take-append-seam, drop-append-seam}
-use Rattle.bits.specs.Bits.{bits, value}
-use Rattle.bits.proofs.Values.{length-bits, value-bits}
-use Rattle.lists.specs.Lists.{Every}
 use Rattle.mt1.specs.Encode.{each}
 
 -- the bits xs stand in bs from a place up to another
@@ -18,11 +15,6 @@ pub record Span (bs : List Bool) (at : ℕ) (xs : List Bool) (end : ℕ) : Type 
   pub fits : end ≤ length bs
   pub after : end ≡ at + length xs
   pub here : take (length xs) (drop at bs) ≡ xs
-
-every-at : {A : Type 0} (P : A → Type 0) (d : A) (xs : List A) (j : ℕ) → Every P xs → j < length xs → P (getD xs j d)
-every-at P d [] j o h = absurd (let z : ⊥ = omega arith in z)
-every-at P d (x ∷ xs) zero o h = o .0
-every-at P d (x ∷ xs) (suc j) o h = every-at P d xs j (o .1) (omega arith)
 
 module _ {bs : List Bool} where
   pub span-none : {at : ℕ} → at ≤ length bs → Span bs at [] at
@@ -72,14 +64,6 @@ module _ {bs : List Bool} where
   span-each f d (x ∷ xs) (suc j) {w} {at} s l h =
       let e : at + w * suc j ≡ at + length (f x) + w * j = omega (arith, l x, mul-suc w j) in
       rw e (span-each f d xs j (span-split (f x) (each f xs) s .1) l (omega arith))
-
-  pub span-number : (n v : ℕ) {at end : ℕ} → Span bs at (bits n v) end → v < 2 ^ n → value (take n (drop at bs)) ≡ v
-  span-number n v s h = ap value (rw (length-bits n v) at (s .here)) ∙ value-bits n v ∙ mod-eq-of-lt h
-
-  -- a row of numbers
-  pub span-row : (n : ℕ) (vs : List ℕ) (j : ℕ) {at end : ℕ} → Span bs at (each (bits n) vs) end → Every (λ v. v < 2 ^ n) vs → j < length vs
-      → value (take n (drop (at + n * j) bs)) ≡ getD vs j 0
-  span-row n vs j s o h = span-number n (getD vs j 0) (span-each (bits n) 0 vs j s (length-bits n) h) (every-at (λ v. v < 2 ^ n) 0 vs j o h)
 
 pub span-front : (xs rest : List Bool) → Span (xs ++ rest) 0 xs (length xs)
 span-front xs rest = record { fits = omega (arith, length-append xs rest); after = sym (zero-add (length xs)); here = take-append-seam xs rest }

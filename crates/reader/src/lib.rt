@@ -1,0 +1,13 @@
+// The reader of message type 1 (document 01, Message type 1): a message of 53k octets to its records.
+mod block;
+mod emit;
+mod field;
+mod mask;
+mod plan;
+mod reading;
+mod record;
+mod subset;
+
+pub use reading::RECORDS_OCTETS;
+pub use reading::ReadAnswer;
+pub use reading::read;

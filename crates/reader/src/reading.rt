@@ -1,0 +1,52 @@
+// The reader of message type 1 (document 01, Message type 1).
+ghost use mathlib.Core.Path.{_≡_};
+ghost use lib.ListN.{length};
+ghost use Rattle.reader.specs.Reader.{Reads};
+ghost use Rattle.reader.specs.Steps.{planRefusal};
+use crate::emit::emit_message;
+use crate::plan::PlanRead;
+use crate::plan::plan_message;
+use mt1::RefusalAt;
+use mt1::refuse;
+use refusal::Refusal;
+
+pub const RECORDS_OCTETS: usize = 21808;
+
+// What `read` answers: how many records it wrote, or the refusal with its place.
+pub enum ReadAnswer {
+    Records(u64),
+    Refused(RefusalAt),
+}
+
+// The refusal of a plan that has one.
+fn plan_refusal(p: PlanRead) -> RefusalAt
+    ensures { λ r. ⌜ r ≡ planRefusal p ⌝ }
+{
+    match p {
+        PlanRead::Got(_) => refuse(Refusal::Short, 0),
+        PlanRead::Refused(r) => r,
+    }
+}
+
+// Reads a message of 53k octets, with a lent mask, into records of 16 octets.
+pub fn read(message: &[u8], mask_id: u64, mask: &[u8], records: &mut [u8]) -> ReadAnswer
+    ensures { λ r. ⌜ Reads (record { octets = now (message .entry); lent = record { id = «mask_id»; octets = now (mask .entry) }; room = length (now (records .entry)) }) (now (records .entry)) r (now (records .exit)) ⌝ }
+{
+    let n = message.len();
+    if n < 53 || n > 1696 || n % 53 != 0 {
+        return ReadAnswer::Refused(refuse(Refusal::Length, 0));
+    }
+    if records.len() != RECORDS_OCTETS {
+        return ReadAnswer::Refused(refuse(Refusal::Out, 0));
+    }
+    let p = plan_message(message, mask_id, mask);
+    let PlanRead::Got(plan) = p else {
+        return ReadAnswer::Refused(plan_refusal(p));
+    };
+    if plan.lent {
+        let lent = emit_message(message, mask, plan, records);
+        return ReadAnswer::Records((lent / 16) as u64);
+    }
+    let own = emit_message(message, message, plan, records);
+    ReadAnswer::Records((own / 16) as u64)
+}
