@@ -1,10 +1,12 @@
-// Solves the example of the ICD's Annex C: 15 pages off the air give the message, and the message gives the 15 pages again.
+// Solves the example of the ICD's Annex C: 15 pages off the air give the message, the message gives the 15 pages again, and it is read.
 mod pages;
 
 use libc::STDOUT_FILENO;
 use pagecode::Answer;
 use pages::CONTENTS;
 use pages::NUMBERS;
+use reader::RECORDS_OCTETS;
+use reader::ReadAnswer;
 
 fn wide(x: u8) -> u64 {
     x as u64
@@ -28,6 +30,20 @@ fn has_page(message: &[u8], number: u64, contents: &[u8]) -> bool {
         return false;
     };
     check::same(&page[3..], contents)
+}
+
+// How many records the message has.
+fn print_reading(message: [u8; 1696]) {
+    let none = [0u8; 0];
+    let mut records = [0u8; RECORDS_OCTETS];
+    let answer = reader::read(&message[..795], 0, &none, &mut records);
+    let ReadAnswer::Records(n) = answer else {
+        io::write_all(STDOUT_FILENO, b"It does not read as message type 1.\n");
+        return;
+    };
+    io::write_all(STDOUT_FILENO, b"Records that it has, read as message type 1: ");
+    io::print_decimal(STDOUT_FILENO, n);
+    io::write_all(STDOUT_FILENO, b"\n");
 }
 
 fn main() {
@@ -60,4 +76,5 @@ fn main() {
             b"Encoded again at its 15 page numbers: the same pages.\n",
         );
     }
+    print_reading(message);
 }

@@ -111,11 +111,11 @@ slice-aggregate-write-all-3 c = search needs
 write-all-requires-3 : tie.Need-write-all-requires-3 Inv-loop μ-loop
 write-all-requires-3 c κs = search needs
 
+print-reading-requires : tie.Need-print-reading-requires Inv-loop μ-loop
+print-reading-requires c κs = search needs
+
 returns-2 : tie.Need-returns-2 Inv-loop μ-loop
 returns-2 c = search needs
-
-returns-3 : tie.Need-returns-3 Inv-loop μ-loop
-returns-3 c = search needs
 
 pub main-spec : {M : Type 1} → statement M
 main-spec =
@@ -155,5 +155,5 @@ main-spec =
     loop-again
     slice-aggregate-write-all-3
     write-all-requires-3
-    returns-2
-    returns-3)
+    print-reading-requires
+    returns-2)
