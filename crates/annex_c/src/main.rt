@@ -41,7 +41,10 @@ fn print_reading(message: [u8; 1696]) {
         io::write_all(STDOUT_FILENO, b"It does not read as message type 1.\n");
         return;
     };
-    io::write_all(STDOUT_FILENO, b"Records that it has, read as message type 1: ");
+    io::write_all(
+        STDOUT_FILENO,
+        b"Records that it has, read as message type 1: ",
+    );
     io::print_decimal(STDOUT_FILENO, n);
     io::write_all(STDOUT_FILENO, b"\n");
 }
