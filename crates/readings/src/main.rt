@@ -12,6 +12,9 @@ use script::OCTETS;
 use script::READINGS;
 use script::SCRIPT;
 
+// Where the message of two systems and all blocks begins.
+const FULL: usize = 1347;
+
 // A place of the data, and the place n octets behind it, as far as there are data.
 fn start_of(place: usize) -> usize
     ensures { λ r. ⌜ r ≤ 2672 ⌝ }
@@ -66,28 +69,47 @@ fn print_reading(answer: ReadAnswer, buffer: &[u8]) {
     io::write_all(STDOUT_FILENO, b"\n");
 }
 
-// Reading i of the script, into a buffer of octets 238.
+// A message and a lent mask, each by where it begins in the data and how long it is, read into a buffer of octets 238.
+fn print_read(message: usize, octets: usize, id: u64, mask: usize, lent: usize) {
+    let data = DATA;
+    let masks = DATA;
+    let message_start = start_of(message);
+    let message_end = end_of(message_start, octets);
+    let mask_start = start_of(mask);
+    let mask_end = end_of(mask_start, lent);
+    let mut records = [0xEE; RECORDS_OCTETS];
+    let answer = reader::read(
+        &data[message_start..message_end],
+        id,
+        &masks[mask_start..mask_end],
+        &mut records,
+    );
+    print_reading(answer, &records);
+}
+
+// Reading i of the script.
 fn print_scripted(i: usize)
     requires { ⌜ i < 66 ⌝ }
 {
-    let data = DATA;
-    let lent = DATA;
     let script = SCRIPT;
     let at = i * 5;
-    let message = start_of(script[at]);
-    let message_end = end_of(message, script[at + 1]);
-    let mask = start_of(script[at + 3]);
-    let mask_end = end_of(mask, script[at + 4]);
-    let mut records = [0xEE; RECORDS_OCTETS];
-    let answer = reader::read(
-        &data[message..message_end],
-        script[at + 2] as u64,
-        &lent[mask..mask_end],
-        &mut records,
-    );
     io::print_decimal(STDOUT_FILENO, i as u64 + 1);
     io::write_all(STDOUT_FILENO, b": ");
-    print_reading(answer, &records);
+    print_read(
+        script[at],
+        script[at + 1],
+        script[at + 2] as u64,
+        script[at + 3],
+        script[at + 4],
+    );
+}
+
+// The message of two systems, cut to n octets.
+fn print_cut(n: usize) {
+    io::write_all(STDOUT_FILENO, b"the first ");
+    io::print_decimal(STDOUT_FILENO, n as u64);
+    io::write_all(STDOUT_FILENO, b" octets: ");
+    print_read(FULL, n, 0, 0, 0);
 }
 
 fn main() {
@@ -95,6 +117,11 @@ fn main() {
     while i < READINGS {
         print_scripted(i);
         i += 1;
+    }
+    let mut n: usize = 0;
+    while n <= 106 {
+        print_cut(n);
+        n += 1;
     }
     let data = DATA;
     let mut small = [0xEE; 21807];
