@@ -15,7 +15,8 @@ use Rattle.mt1.proofs.Counts.{length-header}
 use Rattle.reader.specs.declared.mask.SystemPlan.{SystemPlan}
 use Rattle.reader.specs.declared.plan.Plan.{Plan}
 use Rattle.reader.specs.declared.record.Rows.{Rows}
-use Rattle.reader.specs.Steps.{Near, Emits, firstRows, secondRows, Planned}
+use Rattle.reader.specs.Steps.{Planned}
+use Rattle.reader.specs.Recording.{Near, Emits, firstRows, secondRows}
 use Rattle.reader.proofs.InMask.{at-there}
 use Rattle.reader.proofs.Emitting.{Wrote, wrote-record, wrote-then, wrote-length, system-next, system-le}
 use Rattle.reader.proofs.Systems.{systems-are, ok-at, near-rows, first-emits, second-emits}

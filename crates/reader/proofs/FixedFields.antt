@@ -17,7 +17,8 @@ use Rattle.mt1.specs.Encode.{headerBits, blockBits}
 use Rattle.mt1.specs.Valid.{HeaderOk, BlockOk, IfFlag}
 use Rattle.mt1.specs.Records.{part, octetOr, intervalOf}
 use Rattle.mt1.proofs.Spans.{Span, span-split}
-use Rattle.reader.specs.Steps.{Stands, Below, bodyBits, SystemStands}
+use Rattle.reader.specs.Steps.{Stands, bodyBits}
+use Rattle.reader.specs.Recording.{Below, SystemStands}
 use Rattle.reader.proofs.RowValues.{Value, span-read, number-read}
 
 pub split : {bs : List Bool} {from end : ℕ} (xs ys : List Bool) (w : ℕ) → length xs ≡ w → Span bs from (xs ++ ys) end → Span bs from xs (from + w) × Span bs (from + w) ys end

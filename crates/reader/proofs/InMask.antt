@@ -16,7 +16,8 @@ use Rattle.mt1.specs.Message.{System, Subset, Block, count}
 use Rattle.mt1.specs.Mt1.{satellitesOf, ids}
 use Rattle.mt1.specs.Valid.{IdsOk, SubsetOk, SubsetsOk, BlockOk}
 use Rattle.mt1.specs.Records.{at, ofId, subsetOf}
-use Rattle.reader.specs.Steps.{IfSome, SubsetFits, subsetsIn}
+use Rattle.reader.specs.Steps.{subsetsIn}
+use Rattle.reader.specs.Recording.{IfSome, SubsetFits}
 
 -- ---- elements
 pub at-there : {A : Type 0} (xs : List A) (p : ℕ) → p < length xs → (x : A) × (at xs p ≡ some x)

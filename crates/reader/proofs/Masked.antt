@@ -13,7 +13,8 @@ use Rattle.bits.proofs.Values.{length-bits}
 use Rattle.mt1.specs.Message.{System, Subset, countBefore, cellBits, cellsOf}
 use Rattle.mt1.proofs.Spans.{Span, span-split}
 use Rattle.reader.specs.declared.mask.SystemPlan.{SystemPlan}
-use Rattle.reader.specs.Steps.{Stands, bodyBits, partBits, SystemStands, SubsetFits, chosenBefore}
+use Rattle.reader.specs.Steps.{Stands, bodyBits, partBits}
+use Rattle.reader.specs.Recording.{SystemStands, SubsetFits, chosenBefore}
 use Rattle.reader.proofs.Fields.{before-next}
 use Rattle.reader.proofs.RowValues.{bit-read}
 use Rattle.reader.proofs.FixedFields.{split}

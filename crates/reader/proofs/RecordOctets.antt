@@ -8,7 +8,8 @@ use mathlib.Core.Path.{_≡_, ap₂, _∙_}
 use Rattle.bits.specs.Bits.{bits, value, octetsOf}
 use Rattle.mt1.specs.Message.{System, Message}
 use Rattle.mt1.specs.Records.{two, part, body, octetOr, iodOr, signedOr, intervalOf, multiplierOf, ofSystem, subsetOf, subsetClock, headerRecord, systemRecord, satelliteRecord, cellRecord}
-use Rattle.reader.specs.Steps.{Stands, Below}
+use Rattle.reader.specs.Steps.{Stands}
+use Rattle.reader.specs.Recording.{Below}
 use Rattle.reader.proofs.RowValues.{Value}
 
 -- ---- a value that is read where it stands, as what is recorded of it

@@ -16,7 +16,8 @@ use Rattle.mt1.specs.Mt1.{iodBits}
 use Rattle.mt1.specs.Encode.{orbitBits, phaseBits}
 use Rattle.mt1.specs.Valid.{OrbitOk, PhaseOk}
 use Rattle.mt1.specs.Records.{part, body, ofSystem}
-use Rattle.reader.specs.Steps.{Stands, IfSome, onwards, RowsStand}
+use Rattle.reader.specs.Steps.{Stands}
+use Rattle.reader.specs.Recording.{IfSome, onwards, RowsStand}
 use Rattle.reader.proofs.RowValues.{Value, onwards-onwards, first, last, item}
 
 -- ---- how wide they are

@@ -19,7 +19,8 @@ use Rattle.mt1.specs.Encode.{each}
 use Rattle.mt1.specs.Valid.{Row}
 use Rattle.mt1.specs.Records.{at, part, ofSystem, two, widened, signedOr}
 use Rattle.mt1.proofs.Spans.{Span, span-split, span-each}
-use Rattle.reader.specs.Steps.{Stands, row, IfSome, Below, onwards}
+use Rattle.reader.specs.Steps.{Stands}
+use Rattle.reader.specs.Recording.{row, IfSome, Below, onwards}
 use Rattle.reader.proofs.InMask.{at-is, at-every}
 
 -- a value of n bits that stands at a place

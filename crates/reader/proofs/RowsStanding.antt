@@ -19,7 +19,8 @@ use Rattle.mt1.specs.Valid.{EachOf, Row, OrbitOk, OrbitsOk, ClocksOk, CodesOk, 
 use Rattle.mt1.specs.Records.{at, body, multiplierOf}
 use Rattle.mt1.proofs.Spans.{Span, span-split, span-each, length-each}
 use Rattle.mt1.proofs.Several.{each-of}
-use Rattle.reader.specs.Steps.{Stands, row, IfSome, Below, onwards}
+use Rattle.reader.specs.Steps.{Stands}
+use Rattle.reader.specs.Recording.{row, IfSome, Below, onwards}
 use Rattle.reader.proofs.RowValues.{further}
 use Rattle.reader.proofs.RowFields.{orbit-width, phase-width}
 use Rattle.reader.proofs.InMask.{at-there, at-getD, every-some}

@@ -14,7 +14,8 @@ use Rattle.mt1.specs.Message.{Subset, countBefore}
 use Rattle.mt1.specs.Encode.{each}
 use Rattle.mt1.specs.Records.{part, subsetClock}
 use Rattle.mt1.proofs.Spans.{Span, span-split, span-each}
-use Rattle.reader.specs.Steps.{Stands, Below, partBits, PartOk, SubsetFits, chosenBefore}
+use Rattle.reader.specs.Steps.{Stands, partBits}
+use Rattle.reader.specs.Recording.{Below, PartOk, SubsetFits, chosenBefore}
 use Rattle.reader.proofs.Counting.{before-lt}
 use Rattle.reader.proofs.InMask.{at-is, at-every}
 use Rattle.reader.proofs.RowValues.{Value, bit-read, first}

@@ -23,7 +23,8 @@ use Rattle.reader.specs.declared.mask.SystemPlan.{SystemPlan}
 use Rattle.reader.specs.declared.mask.MaskPlan.{MaskPlan}
 use Rattle.reader.specs.declared.plan.Plan.{Plan}
 use Rattle.reader.specs.declared.record.Rows.{Rows}
-use Rattle.reader.specs.Steps.{systemPlan, planOf, cellsLength, maskPlan, Stands, bodyBits, partBits, chain, subsetsIn, row, IfSome, SystemStands, Near, RowsStand, Emits, onwards, Close, firstRows, secondRows, Planned}
+use Rattle.reader.specs.Steps.{systemPlan, planOf, cellsLength, maskPlan, Stands, bodyBits, partBits, chain, subsetsIn, Planned}
+use Rattle.reader.specs.Recording.{row, IfSome, SystemStands, Near, RowsStand, Emits, onwards, Close, firstRows, secondRows}
 use Rattle.reader.proofs.SystemSteps.{mask-cells}
 use Rattle.reader.proofs.InMask.{every-some, may-come, satellites-of, part-ok, part-of}
 use Rattle.reader.proofs.RowsStanding.{total, total-one, iod-le, orbit-row, code-row, phase-row, clock-row, multiplier-at}

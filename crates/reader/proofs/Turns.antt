@@ -17,7 +17,8 @@ use Rattle.reader.specs.declared.mask.SystemPlan.{SystemPlan}
 use Rattle.reader.specs.declared.record.Rows.{Rows}
 use Rattle.reader.specs.declared.emit.Cursor.{Cursor}
 use Rattle.reader.specs.declared.emit.CellCursor.{CellCursor}
-use Rattle.reader.specs.Steps.{Stands, partBits, SystemStands, SubsetFits, chosenBefore, Emits, RowOf, Reached, InRow}
+use Rattle.reader.specs.Steps.{Stands, partBits}
+use Rattle.reader.specs.Recording.{SystemStands, SubsetFits, chosenBefore, Emits, RowOf, Reached, InRow}
 use Rattle.reader.proofs.Fields.{before-next}
 use Rattle.reader.proofs.Counting.{before-le, before-lt, place-in, place-few}
 use Rattle.reader.proofs.Masked.{satellite-bit, signal-bit}

@@ -10,7 +10,8 @@ ghost use Rattle.bits.specs.Bits.{bitsOf};
 ghost use Rattle.mt1.specs.Message.{System, Subset, Message, count, countBefore, cellBits, cellsOf};
 ghost use Rattle.mt1.specs.Mt1.{Lent};
 ghost use Rattle.mt1.specs.Records.{build, cellRecords, satelliteRecords, systemRecords, records};
-ghost use Rattle.reader.specs.Steps.{Stands, partBits, SubsetFits, chosenBefore, SystemStands, Near, Emits, RowOf, Reached, InRow, Close, firstRows, secondRows, Planned};
+ghost use Rattle.reader.specs.Steps.{Stands, partBits, Planned};
+ghost use Rattle.reader.specs.Recording.{SubsetFits, chosenBefore, SystemStands, Near, Emits, RowOf, Reached, InRow, Close, firstRows, secondRows};
 use crate::mask::SystemPlan;
 use crate::plan::Plan;
 use crate::plan::iod_bits;
@@ -260,7 +261,7 @@ fn second_rows(plan: Plan) -> Rows
 
 // The records of a planned message, whose mask stands in `source`; how many octets they are.
 pub fn emit_message(octets: &[u8], source: &[u8], plan: Plan, out: &mut [u8]) -> usize
-    requires { ⌜ (length (now out) ≡ 21808) × (53 ≤ length (now octets)) × ((lent : Lent) × (m : Message) × (ss : List System) × Planned lent (now octets) (now source) m ss plan) ⌝ }
+    requires { ⌜ (length (now out) ≡ 21808) × ((lent : Lent) × (m : Message) × (ss : List System) × Planned lent (now octets) (now source) m ss plan) ⌝ }
     ensures { λ r. ⌜ ((lent : Lent) (m : Message) (ss : List System) → Planned lent (now (octets .entry)) (now (source .entry)) m ss plan
         → (r ≡ length (records ss m)) × (now (out .exit) ≡ laid (now (out .entry)) 0 (records ss m))) ⌝ }
 {

@@ -5,12 +5,12 @@ ghost use mathlib.Core.List.{List};
 ghost use mathlib.Core.Option.{Option};
 ghost use Prim.Native.Nat.{ℕ, _+_, _*_, _/_, _%_, _≤_, _<_, _^_};
 ghost use lib.Dec.{eqb};
-ghost use lib.ListN.{length};
 ghost use Rattle.bits.specs.Bits.{bits, bitsOf, numberAt};
 ghost use Rattle.mt1.specs.Message.{System, Subset, Message, count, cellsOf};
 ghost use Rattle.mt1.specs.Mt1.{Lent};
 ghost use Rattle.mt1.specs.Records.{two, widened, octetOr, iodOr, signedOr, subsetOf, subsetClock, headerRecord, systemRecord, satelliteRecord, cellRecord};
-ghost use Rattle.reader.specs.Steps.{Below, Stands, partBits, SystemStands, SubsetFits, chosenBefore, Near, RowsStand, Planned};
+ghost use Rattle.reader.specs.Steps.{Stands, partBits, Planned};
+ghost use Rattle.reader.specs.Recording.{Below, SystemStands, SubsetFits, chosenBefore, Near, RowsStand};
 use crate::mask::SystemPlan;
 use crate::plan::Plan;
 
@@ -90,7 +90,6 @@ fn iod_at(octets: &[u8], place: usize, n: usize) -> u64
 
 // The header record.
 pub fn header_record(octets: &[u8], plan: Plan) -> [u8; 16]
-    requires { ⌜ 53 ≤ length (now octets) ⌝ }
     ensures { λ r. ⌜ ((lent : Lent) (source : List ℕ) (m : Message) (ss : List System) → Planned lent (now (octets .entry)) source m ss plan → r ≡ headerRecord m) ⌝ }
 {
     let time = bits::number_at(octets, 0, 12);

@@ -6,7 +6,7 @@ use lib.ListN.{length}
 use borrow.Author.Needs.{needs}
 use Rattle.mt1.specs.Message.{System, Message, count, countBefore, cellsOf}
 use Rattle.mt1.specs.Records.{build, cellRecords}
-use Rattle.reader.specs.Steps.{Emits, RowOf, InRow}
+use Rattle.reader.specs.Recording.{Emits, RowOf, InRow}
 use Rattle.reader.proofs.Emitting.{Wrote, wrote-start, wrote-next, wrote-le, cells-le}
 use Rattle.reader.proofs.Turns.{row-start}
 use Rattle.reader.proofs.emit.emit_cells.Statement.{statement}

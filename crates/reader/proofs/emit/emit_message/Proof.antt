@@ -30,11 +30,11 @@ returns c = λ lent m ss x.
     emitted-none x (c .if1 .taken) (wrote-header x (w .before .before .header-record .ensures lent (start w .args .source .now) m ss x) (w .store .ensures))
 
 first-rows-requires : tie.Need-first-rows-requires
-first-rows-requires c κs = close (start (stored c) .pre .2 .3)
+first-rows-requires c κs = close (start (stored c) .pre .1 .3)
 
 emit-system-requires : tie.Need-emit-system-requires
 emit-system-requires c κs =
-    let x = start (stored (c .before .before)) .pre .2 .3 in
+    let x = start (stored (c .before .before)) .pre .1 .3 in
     let rows = c .before .first-rows .ensures in
     (search needs, search needs, first-near x (c .before .before .if1 .left) rows, first-there x (c .before .before .if1 .left) rows)
 
@@ -50,7 +50,7 @@ returns-2 c = λ lent m ss x.
     (wrote-header x (w .before .before .header-record .ensures lent (start w .args .source .now) m ss x) (w .store .ensures)) (y .emit-system .ensures)
 
 second-rows-requires : tie.Need-second-rows-requires
-second-rows-requires c κs = close (start (stored (emitted c .before .before .before)) .pre .2 .3)
+second-rows-requires c κs = close (start (stored (emitted c .before .before .before)) .pre .1 .3)
 
 emit-system-requires-2 : tie.Need-emit-system-requires-2
 emit-system-requires-2 c κs =
@@ -58,7 +58,7 @@ emit-system-requires-2 c κs =
     let y = emitted t in
     let g = y .before .before .before in
     let w = stored g in
-    let (lent, m, ss, x) = start w .pre .2 in
+    let (lent, m, ss, x) = start w .pre .1 in
     let room =
     first-room x (g .if1 .left) (y .before .before .first-rows .ensures) (start w .pre .0)
     (wrote-header x (w .before .before .header-record .ensures lent (start w .args .source .now) m ss x) (w .store .ensures)) (y .emit-system .ensures) in

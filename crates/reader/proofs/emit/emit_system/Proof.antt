@@ -6,7 +6,7 @@ use lib.ListN.{length}
 use borrow.Author.Needs.{needs}
 use Rattle.mt1.specs.Message.{System, Message}
 use Rattle.mt1.specs.Records.{build, systemRecord, satelliteRecords}
-use Rattle.reader.specs.Steps.{Emits, Reached}
+use Rattle.reader.specs.Recording.{Emits, Reached}
 use Rattle.mt1.proofs.Counts.{length-system}
 use Rattle.reader.proofs.Emitting.{Wrote, wrote-start, wrote-next, wrote-le, wrote-record, wrote-system, satellite-le}
 use Rattle.reader.proofs.Turns.{system-start}

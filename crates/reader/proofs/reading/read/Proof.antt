@@ -80,7 +80,7 @@ emit-message-requires c κs =
     let k = c .before .before in
     let e = planning k in
     let (m, end, ss, r, t) = message-read k in
-    (e .if4 .left, omega (arith, e .before .before .before .if1 .left), (call (begun (e .before)) .lent, m, ss, from-source (c .before .if5 .taken) t))
+    (e .if4 .left, (call (begun (e .before)) .lent, m, ss, from-source (c .before .if5 .taken) t))
 
 same-length : tie.Need-same-length
 same-length c = search needs
@@ -100,7 +100,7 @@ emit-message-requires-2 c κs =
     let k = c .before .before in
     let e = planning k in
     let (m, end, ss, r, t) = message-read k in
-    (e .if4 .left, omega (arith, e .before .before .before .if1 .left), (call (begun (e .before)) .lent, m, ss, from-source (c .before .if5 .left) t))
+    (e .if4 .left, (call (begun (e .before)) .lent, m, ss, from-source (c .before .if5 .left) t))
 
 same-length-2 : tie.Need-same-length-2
 same-length-2 c = search needs
