@@ -1,12 +1,15 @@
-// Solves the example of the ICD's Annex C: 15 pages off the air give the message, the message gives the 15 pages again, and it is read.
+// Solves the example of the ICD's Annex C: 15 pages off the air give the message, the message gives the 15 pages again, it is read, and its records are written to it again.
 mod pages;
 
+ghost use Prim.Native.Nat.{_≤_};
 use libc::STDOUT_FILENO;
 use pagecode::Answer;
 use pages::CONTENTS;
 use pages::NUMBERS;
 use reader::RECORDS_OCTETS;
 use reader::ReadAnswer;
+use writer::MESSAGE_OCTETS;
+use writer::WriteAnswer;
 
 fn wide(x: u8) -> u64 {
     x as u64
@@ -32,7 +35,20 @@ fn has_page(message: &[u8], number: u64, contents: &[u8]) -> bool {
     check::same(&page[3..], contents)
 }
 
-// How many records the message has.
+// Whether the first n records, written again, are the message.
+fn is_written_again(records: [u8; RECORDS_OCTETS], n: usize, message: &[u8]) -> bool
+    requires { ⌜ n ≤ 1363 ⌝ }
+{
+    let none = [0u8; 0];
+    let mut again = [0u8; MESSAGE_OCTETS];
+    let answer = writer::write(&records[..16 * n], 0, &none, &mut again);
+    let WriteAnswer::Size(_) = answer else {
+        return false;
+    };
+    check::same(&again[..795], message)
+}
+
+// How many records the message has, and whether they are written to it again.
 fn print_reading(message: [u8; 1696]) {
     let none = [0u8; 0];
     let mut records = [0u8; RECORDS_OCTETS];
@@ -47,6 +63,15 @@ fn print_reading(message: [u8; 1696]) {
     );
     io::print_decimal(STDOUT_FILENO, n);
     io::write_all(STDOUT_FILENO, b"\n");
+    if n > 1363 {
+        return;
+    }
+    if is_written_again(records, n as usize, &message[..795]) {
+        io::write_all(
+            STDOUT_FILENO,
+            b"Written again from its records: the same octets.\n",
+        );
+    }
 }
 
 fn main() {

@@ -15,7 +15,7 @@ use Rattle.mt1.specs.Parse.{Parser}
 use Rattle.mt1.specs.Message.{System, count, cellsOf}
 use Rattle.mt1.specs.Mt1.{known, block, iodBits, orbit, orbits, clocks, satellitesOf, subsetSystem, ids, subset, codes, phase, phases}
 use Rattle.mt1.specs.Encode.{each, blockBits, orbitBits, orbitsBits, clocksBits, subsetBits, subsetsBits, codesBits, phaseBits, phasesBits}
-use Rattle.mt1.specs.Valid.{IdsOk, OrbitOk, OrbitsOk, ClocksOk, SubsetOk, SubsetsOk, CodesOk, PhaseOk, PhasesOk, BlockOk}
+use Rattle.mt1.specs.Valid.{IdsOk, SystemOk, OrbitOk, OrbitsOk, ClocksOk, SubsetOk, SubsetsOk, CodesOk, PhaseOk, PhasesOk, BlockOk}
 use Rattle.mt1.proofs.Combinators.{Reads, then, last, reads-ok, raw-reads, field-reads, tested}
 use Rattle.mt1.proofs.Several.{times-reads, forEach-reads, forEach-same, memb-every, systems-reads}
 use Rattle.mt1.proofs.Masks.{counted-reads, known-small}
@@ -64,6 +64,7 @@ subset-system-reads ss id = reads-ok
 pub record Masked (ss : List System) : Type 0 where
   pub few : length ss ≤ 2
   pub ids : IdsOk known [] (ids ss)
+  pub systems : Every SystemOk ss
 
 pub ids-small : (came : List ℕ) (l : List ℕ) → IdsOk known came l → Every (λ i. i < 2 ^ 4) l
 ids-small came [] o = tt

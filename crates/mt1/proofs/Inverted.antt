@@ -11,8 +11,9 @@ use lib.ListN.{length}
 use Rattle.bits.specs.Bits.{bitsOf}
 use Rattle.lists.proofs.Tests.{onBool}
 use Rattle.mt1.specs.Parse.{Outcome, got, bad, Parser, _>>=_, fail}
-use Rattle.mt1.specs.Message.{Header, hasMask, hasOrbit, hasClock, hasSubset, hasCode, hasPhase, System, Mask}
+use Rattle.mt1.specs.Message.{Message, Header, hasMask, hasOrbit, hasClock, hasSubset, hasCode, hasPhase, System, Mask}
 use Rattle.mt1.specs.Mt1.{mask, needsMask, used, orMask, behind, Lent, cleanly, lentFor, message}
+use Rattle.mt1.specs.Records.{systemsIn}
 use Rattle.mt1.specs.Encode.{encode}
 use Rattle.mt1.specs.Valid.{MaskOk, IfFlag, Ok}
 use Rattle.mt1.specs.Inverse.{Inverse}
@@ -23,10 +24,6 @@ use Rattle.mt1.proofs.Masks.{header-reads, mask-reads}
 use Rattle.mt1.proofs.Blocks.{Masked, block-reads, orbits-reads, clocks-reads, subset-reads, codes-reads, phases-reads}
 
 -- ---- the mask that is used
-abbrev pub chosen : Option (List System) → List System
-chosen (some ss) = ss
-chosen none = []
-
 orMask-reads : (o : Option (List System)) → Reads (orMask o) (λ ss. o ≡ some ss) (λ ss. [])
 unfolding fail
 orMask-reads (some ss) = reads-ok (λ t e. ap some (sym e)) (λ t e. cc) (ret-reads ss)
@@ -34,7 +31,7 @@ orMask-reads none = record { complete = λ bs at ss end o s. absurd (some-none (
 
 -- what is behind is read for these systems, which are no part of it
 given : {B : Type 0} {o : Option (List System)} {k : List System → Parser B} {OkB : List System → B → Type 0} {encB : List System → B → List Bool}
-    → ((ss : List System) → o ≡ some ss → Reads (k ss) (OkB ss) (encB ss)) → Reads (orMask o >>= k) (λ b. (ss : List System) × (o ≡ some ss) × OkB ss b) (encB (chosen o))
+    → ((ss : List System) → o ≡ some ss → Reads (k ss) (OkB ss) (encB ss)) → Reads (orMask o >>= k) (λ b. (ss : List System) × (o ≡ some ss) × OkB ss b) (encB (systemsIn o))
 given {o = o} K = bind (λ ss b u r. ((ss, u, r), rw u)) (λ b q. q) (orMask-reads o) K
 
 pub lent-ok : (lent : Lent) (id : ℕ) (m : Mask) → lentFor lent id ≡ some m → MaskOk m
@@ -47,11 +44,11 @@ lent-ok lent id m = onBool (eqb (lent .id) id) (λ t. rw t λ e. clean (mask (bi
 
 -- its systems are those of a mask that was read, or none
 masked : (flag : Bool) (m : Mask) → IfFlag flag MaskOk (some m) → Masked (m .systems)
-masked true m o = record { few = o .few; ids = o .ids }
+masked true m o = record { few = o .few; ids = o .ids; systems = o .systems }
 masked false m o = absurd o
 
 unmasked : Masked []
-unmasked = record { few = omega arith; ids = tt }
+unmasked = record { few = omega arith; ids = tt; systems = tt }
 
 pub used-masked : (lent : Option Mask) (h : Header) (own : Option Mask) (ss : List System)
     → ((m : Mask) → lent ≡ some m → MaskOk m) → IfFlag (hasMask h) MaskOk own → used lent h own ≡ some ss → Masked ss
@@ -64,7 +61,7 @@ used-masked (some m) h none ss l o = onBool (needsMask h)
 
 -- ---- the message
 pub message-reads : (lent : Lent) → Reads (message lent) (λ m. (ss : List System) × Ok (lentFor lent (m .header .maskId)) ss m)
-    (λ m. encode (chosen (used (lentFor lent (m .header .maskId)) (m .header) (m .mask))) m)
+    (λ m. encode (systemsIn (used (lentFor lent (m .header .maskId)) (m .header) (m .mask))) m)
 unfolding message behind encode
 message-reads lent = reads-ok
     (λ m o. let (ss, u, r) = o .1 .1 in
@@ -88,3 +85,7 @@ inverse lent = record {
       let s : Span bs 0 (encode ss m) end = rw (o .used) at (T .span) in
       (ss, record { valid = o; bits = span-rest s; ends = omega (arith, s .after) });
 }
+
+-- the systems that a message uses are those of a mask, or none
+pub ok-masked : (lent : Lent) (ss : List System) (m : Message) → Ok (lentFor lent (m .header .maskId)) ss m → Masked ss
+ok-masked lent ss m o = used-masked (lentFor lent (m .header .maskId)) (m .header) (m .mask) ss (lent-ok lent (m .header .maskId)) (o .mask) (o .used)

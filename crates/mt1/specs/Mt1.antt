@@ -179,6 +179,10 @@ unfoldable pub lentFor : Lent → ℕ → Option Mask
 unfolding mask bitsOf
 lentFor lent id = cond (eqb (lent .id) id) (cleanly (mask (bitsOf (lent .octets)) 0)) none
 
+abbrev pub isNone : {A : Type 0} → Option A → Bool
+isNone none = true
+isNone (some x) = false
+
 unfoldable pub message : Lent → Parser Message
 unfolding _>>=_ header behind lentFor
 message lent = header >>= λ h. behind (lentFor lent (h .maskId)) h

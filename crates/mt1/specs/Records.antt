@@ -1,5 +1,5 @@
 -- The records of a message: 01, Records.
--- Leans on the message as a value.
+-- Leans on the message as a value, and for its systems on the parser, in Mt1.
 use Prim.Native.Nat.{ℕ, zero, suc, _+_, _*_, _-_, _/_, _%_}
 use mathlib.Core.Bool.{Bool, true, false, _&&_, cond}
 use mathlib.Core.List.{List, [], _∷_, _++_}
@@ -8,6 +8,7 @@ use lib.Dec.{eqb, ltb}
 use lib.ListN.{getD, replicate}
 use Rattle.bits.specs.Bits.{value, octetsOf}
 use Rattle.mt1.specs.Message.{Header, System, count, countBefore, cellsOf, Orbit, Clocks, Subset, Phase, Block, Message}
+use Rattle.mt1.specs.Mt1.{Lent, lentFor, used}
 
 -- ---- octets
 -- "big-endian"
@@ -114,7 +115,7 @@ cellRecord m p i g n =
 
 -- ---- their order
 -- f 0, f 1, .. f (n - 1), one behind another
-unfoldable pub build : ℕ → (ℕ → List ℕ) → List ℕ
+unfoldable pub build : {A : Type 0} → ℕ → (ℕ → List A) → List A
 build zero f = []
 build (suc n) f = build n f ++ f n
 
@@ -151,3 +152,13 @@ unfoldable pub recordCount : List System → ℕ
 unfolding count cellsOf
 recordCount [] = 0
 recordCount (s ∷ ss) = 1 + (count (s .satellites) + count (cellsOf s)) + recordCount ss
+
+-- ---- of a message that is read with a lent mask
+-- the systems of the mask that a message uses; none if it uses none
+abbrev pub systemsIn : Option (List System) → List System
+systemsIn none = []
+systemsIn (some ss) = ss
+
+unfoldable pub recordsOf : Lent → Message → List ℕ
+unfolding lentFor used records
+recordsOf lent m = records (systemsIn (used (lentFor lent (m .header .maskId)) (m .header) (m .mask))) m

@@ -82,7 +82,7 @@ module _ (lent : Lent) (octets : List ℕ) where
   unfolding message _>>=_
   message-bad e = rw e
 
-  module _ (h : Header) (e : header (bitsOf octets) 0 ≡ got h 32) (short : length octets ≤ 1696) where
+  module _ (h : Header) (e : header (bitsOf octets) 0 ≡ got h 32) (short : length octets ≤ 20480) where
     pub own-bad : {r : RefusalAt} → getD (bitsOf octets) 12 false ≡ true → mask (bitsOf octets) 32 ≡ bad r → message lent (bitsOf octets) 0 ≡ bad r
     unfolding message behind _>>=_
     own-bad f b = rw (e, flag h (bitsOf octets) (header-at (bitsOf octets) h e .flags) 0 (omega arith), f, b)

@@ -85,7 +85,7 @@ parts-refused true ss bs place {r = r} {q} e f g = let d : r ≡ q = g ∙ ap su
 parts-refused false ss bs place e f g = absurd (subset-refused (sym e ∙ f))
 
 pub masked : {ss : List System} {place : ℕ} {plan : MaskPlan} → MaskOf ss place plan → Masked ss
-masked k = record { few = k .few; ids = k .differ }
+masked k = record { few = k .few; ids = k .differ; systems = k .each }
 
 -- ---- all of them: each flag is a bit of the header
 pub flag : (h : Header) (bs : List Bool) → h .flags ≡ take 6 (drop 12 bs) → (i : ℕ) → i < 6 → getD (h .flags) i false ≡ getD bs (12 + i) false

@@ -102,10 +102,10 @@ module _ {lent : Lent} {octets sourced : List ℕ} {m : Message} {ss : List Syst
         }
 
   -- ---- the first and the second
-  short : length (bitsOf octets) ≤ 13568
+  short : length (bitsOf octets) ≤ 163840
   short = omega (arith, length-bitsOf octets, planned .short)
 
-  stands-near : {A : Type 0} (place : ℕ) (f : A → List Bool) (x : Option A) → Stands (bitsOf octets) place f x → place ≤ 13568
+  stands-near : {A : Type 0} (place : ℕ) (f : A → List Bool) (x : Option A) → Stands (bitsOf octets) place f x → place ≤ 163840
   stands-near place f none st = omega (arith, st)
   stands-near place f (some x) st = omega (arith, st .1 .1 .fits, st .1 .1 .after, short)
 

@@ -59,12 +59,12 @@ pub record SystemStands (bs : List Bool) (s : System) (plan : SystemPlan) : Type
 
 pub record Near (rows : Rows) : Type 0 where
   pub iod : rows .iod ≤ 10
-  pub orbit : rows .orbit ≤ 13568
-  pub multiplier : rows .multiplier ≤ 13568
-  pub clock : rows .clock ≤ 13568
-  pub part : rows .part ≤ 13568
-  pub code : rows .code ≤ 13568
-  pub phase : rows .phase ≤ 13568
+  pub orbit : rows .orbit ≤ 163840
+  pub multiplier : rows .multiplier ≤ 163840
+  pub clock : rows .clock ≤ 163840
+  pub part : rows .part ≤ 163840
+  pub code : rows .code ≤ 163840
+  pub phase : rows .phase ≤ 163840
 
 pub record RowsStand (bs : List Bool) (m : Message) (p : ℕ) (s : System) (rows : Rows) : Type 0 where
   pub iod : rows .iod ≡ iodBits (s .id)
@@ -108,10 +108,10 @@ abbrev pub onwards : ℕ → ℕ → ℕ
 onwards place n = cond (eqb place 0) 0 (place + n)
 
 pub record Close (plan : Plan) : Type 0 where
-  pub orbit : plan .orbit ≤ 13568
-  pub clock : plan .clock ≤ 13568
-  pub code : plan .code ≤ 13568
-  pub phase : plan .phase ≤ 13568
+  pub orbit : plan .orbit ≤ 163840
+  pub clock : plan .clock ≤ 163840
+  pub code : plan .code ≤ 163840
+  pub phase : plan .phase ≤ 163840
   pub systems : plan .mask .systems ≤ 2
   pub satellites : plan .mask .first .satellites ≤ 40
   pub cells : plan .mask .first .cells ≤ 640

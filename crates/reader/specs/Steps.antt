@@ -251,7 +251,7 @@ pub record Planned (lent : Lent) (octets sourced : List ℕ) (m : Message) (ss :
   pub header : Span (bitsOf octets) 0 (headerBits (m .header)) 32
   pub mask : MaskStands (bitsOf sourced) ss (plan .mask)
   pub blocks : BlocksStand (bitsOf octets) ss m plan
-  pub short : length octets ≤ 1696
+  pub short : length octets ≤ 20480
 
 -- what a first pass tells, over what is behind a header where the lent mask is used, and over the whole message
 abbrev pub LentRead : Lent → Header → List ℕ → PlanRead → Type 0

@@ -27,7 +27,7 @@ pub struct Widths {
 
 // An interval at a place.
 pub fn skip_interval(octets: &[u8], at: usize) -> Step
-    requires { ⌜ at ≤ 13568 ⌝ }
+    requires { ⌜ at ≤ 163840 ⌝ }
     ensures { λ r. ⌜ r ≡ stepOf (interval (bitsOf (now (octets .entry))) at) ⌝ }
 {
     let f = read_field(octets, at, 4);
@@ -43,7 +43,7 @@ pub fn skip_interval(octets: &[u8], at: usize) -> Step
 
 // An item's fields.
 fn skip_item(octets: &[u8], at: usize, w: Widths) -> Step
-    requires { ⌜ (at ≤ 13568) × Small w ⌝ }
+    requires { ⌜ (at ≤ 163840) × Small w ⌝ }
     ensures { λ r. ⌜ r ≡ stepOf (forEach (widthsOf w) field (bitsOf (now (octets .entry))) at) ⌝ }
 {
     let s = skip(octets, at, w.a);
@@ -63,7 +63,7 @@ fn skip_item(octets: &[u8], at: usize, w: Widths) -> Step
 
 // n items in a row.
 pub fn skip_items(octets: &[u8], at: usize, n: usize, w: Widths) -> Step
-    requires { ⌜ (at ≤ 13568) × (length (now octets) ≤ 1696) × Small w ⌝ }
+    requires { ⌜ (at ≤ 163840) × (length (now octets) ≤ 20480) × Small w ⌝ }
     ensures { λ r. ⌜ r ≡ stepOf (times n (forEach (widthsOf w) field) (bitsOf (now (octets .entry))) at) ⌝ }
 {
     let mut place = at;
@@ -89,7 +89,7 @@ pub fn skip_block(
     second: usize,
     w: Widths,
 ) -> Step
-    requires { ⌜ (at ≤ 13568) × (length (now octets) ≤ 1696) × Small v × Small w ⌝ }
+    requires { ⌜ (at ≤ 163840) × (length (now octets) ≤ 20480) × Small v × Small w ⌝ }
     ensures { λ r. ⌜ r ≡ stepOf (skippedBlock multipliers first (widthsOf v) second (widthsOf w) (bitsOf (now (octets .entry))) at) ⌝ }
 {
     let s = skip_interval(octets, at);

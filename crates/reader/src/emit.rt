@@ -133,7 +133,7 @@ fn emit_cells(
 
 // Whether the nth satellite is chosen, as a number.
 fn chosen_at(octets: &[u8], part: usize, n: usize) -> usize
-    requires { ⌜ (part ≤ 20000) × (n < 40) ⌝ }
+    requires { ⌜ (part ≤ 200000) × (n < 40) ⌝ }
     ensures { λ r. ⌜ ((s : Option Subset) (satellites : ℕ) → Stands (bitsOf (now (octets .entry))) part partBits s → SubsetFits satellites s → n < satellites → chosenBefore s n + r ≡ chosenBefore s (n + 1)) ⌝ }
 {
     if part == 0 {

@@ -44,7 +44,7 @@ pub fn field_refusal(f: Field) -> RefusalAt
 
 // A field of n bits that are not read as a number.
 pub fn skip(octets: &[u8], at: usize, n: usize) -> Step
-    requires { ⌜ (at ≤ 20000) × (n ≤ 20000) ⌝ }
+    requires { ⌜ (at ≤ 200000) × (n ≤ 20000) ⌝ }
     ensures { λ r. ⌜ r ≡ stepOf (raw n (bitsOf (now (octets .entry))) at) ⌝ }
 {
     if bits::fits(octets, at, n) {
@@ -65,7 +65,7 @@ pub fn step_refusal(s: Step) -> RefusalAt
 
 // How many of the n bits at a place are 1.
 pub fn count_bits(octets: &[u8], at: usize, n: usize) -> usize
-    requires { ⌜ (at ≤ 20000) × (n ≤ 20000) ⌝ }
+    requires { ⌜ (at ≤ 200000) × (n ≤ 20000) ⌝ }
     ensures { λ r. ⌜ r ≡ count (take n (drop at (bitsOf (now (octets .entry))))) ⌝ }
 {
     let mut c: usize = 0;

@@ -8,7 +8,7 @@ ghost use lib.ListN.{length, getD, take, drop};
 ghost use Rattle.bits.specs.Bits.{bitsOf};
 ghost use Rattle.mt1.specs.Parse.{got, optional};
 ghost use Rattle.mt1.specs.Message.{Header, System, Mask};
-ghost use Rattle.mt1.specs.Mt1.{header, needsMask, iodBits, block, orbits, clocks, codes, phases};
+ghost use Rattle.mt1.specs.Mt1.{header, needsMask, iodBits, block, orbits, clocks, codes, phases, lentFor, isNone};
 ghost use Rattle.reader.specs.Steps.{stepOf, maskPlan, MaskOf, MaskMade, subsetRefusal, SubsetReadIf, BlocksRead, LentRead, MessageRead};
 use crate::block::Widths;
 use crate::block::skip_block;
@@ -59,7 +59,7 @@ fn place_if(there: bool, place: usize) -> usize
 
 // The orbit block, if its flag is 1.
 fn skip_orbits(octets: &[u8], at: usize, mask: MaskPlan) -> Step
-    requires { ⌜ (at ≤ 8 * length (now octets)) × (length (now octets) ≤ 1696) × MaskMade mask ⌝ }
+    requires { ⌜ (at ≤ 8 * length (now octets)) × (length (now octets) ≤ 20480) × MaskMade mask ⌝ }
     ensures { λ r. ⌜ ((ss : List System) (place : ℕ) → MaskOf ss place mask → r ≡ stepOf (optional (getD (bitsOf (now (octets .entry))) 13 false) (block (orbits ss)) (bitsOf (now (octets .entry))) at)) ⌝ }
 {
     if !bits::bit_at(octets, 13) {
@@ -84,7 +84,7 @@ fn skip_orbits(octets: &[u8], at: usize, mask: MaskPlan) -> Step
 
 // The clock full block, if its flag is 1.
 fn skip_clocks(octets: &[u8], at: usize, mask: MaskPlan) -> Step
-    requires { ⌜ (at ≤ 8 * length (now octets)) × (length (now octets) ≤ 1696) × MaskMade mask ⌝ }
+    requires { ⌜ (at ≤ 8 * length (now octets)) × (length (now octets) ≤ 20480) × MaskMade mask ⌝ }
     ensures { λ r. ⌜ ((ss : List System) (place : ℕ) → MaskOf ss place mask → r ≡ stepOf (optional (getD (bitsOf (now (octets .entry))) 14 false) (block (clocks ss)) (bitsOf (now (octets .entry))) at)) ⌝ }
 {
     if !bits::bit_at(octets, 14) {
@@ -111,7 +111,7 @@ fn skip_clocks(octets: &[u8], at: usize, mask: MaskPlan) -> Step
 
 // The clock subset block, if its flag is 1.
 fn skip_subset(octets: &[u8], at: usize, mask: MaskPlan) -> SubsetRead
-    requires { ⌜ (at ≤ 8 * length (now octets)) × (length (now octets) ≤ 1696) × MaskMade mask ⌝ }
+    requires { ⌜ (at ≤ 8 * length (now octets)) × (length (now octets) ≤ 20480) × MaskMade mask ⌝ }
     ensures { λ r. ⌜ ((ss : List System) (place : ℕ) → MaskOf ss place mask → SubsetReadIf (getD (bitsOf (now (octets .entry))) 15 false) ss (bitsOf (now (octets .entry))) at r) ⌝ }
 {
     if !bits::bit_at(octets, 15) {
@@ -126,7 +126,7 @@ fn skip_subset(octets: &[u8], at: usize, mask: MaskPlan) -> SubsetRead
 
 // The code bias block, if its flag is 1.
 fn skip_codes(octets: &[u8], at: usize, mask: MaskPlan) -> Step
-    requires { ⌜ (at ≤ 8 * length (now octets)) × (length (now octets) ≤ 1696) × MaskMade mask ⌝ }
+    requires { ⌜ (at ≤ 8 * length (now octets)) × (length (now octets) ≤ 20480) × MaskMade mask ⌝ }
     ensures { λ r. ⌜ ((ss : List System) (place : ℕ) → MaskOf ss place mask → r ≡ stepOf (optional (getD (bitsOf (now (octets .entry))) 16 false) (block (codes ss)) (bitsOf (now (octets .entry))) at)) ⌝ }
 {
     if !bits::bit_at(octets, 16) {
@@ -145,7 +145,7 @@ fn skip_codes(octets: &[u8], at: usize, mask: MaskPlan) -> Step
 
 // The phase bias block, if its flag is 1.
 fn skip_phases(octets: &[u8], at: usize, mask: MaskPlan) -> Step
-    requires { ⌜ (at ≤ 8 * length (now octets)) × (length (now octets) ≤ 1696) × MaskMade mask ⌝ }
+    requires { ⌜ (at ≤ 8 * length (now octets)) × (length (now octets) ≤ 20480) × MaskMade mask ⌝ }
     ensures { λ r. ⌜ ((ss : List System) (place : ℕ) → MaskOf ss place mask → r ≡ stepOf (optional (getD (bitsOf (now (octets .entry))) 17 false) (block (phases ss)) (bitsOf (now (octets .entry))) at)) ⌝ }
 {
     if !bits::bit_at(octets, 17) {
@@ -174,7 +174,7 @@ fn subset_refusal(s: SubsetRead) -> RefusalAt
 
 // The blocks behind the mask, of which `at` is the first bit.
 fn plan_blocks(octets: &[u8], at: usize, mask: MaskPlan, lent: bool) -> PlanRead
-    requires { ⌜ (32 ≤ at) × (at ≤ 8 * length (now octets)) × (length (now octets) ≤ 1696) × MaskMade mask ⌝ }
+    requires { ⌜ (32 ≤ at) × (at ≤ 8 * length (now octets)) × (length (now octets) ≤ 20480) × MaskMade mask ⌝ }
     ensures { λ r. ⌜ ((h : Header) (own : Option Mask) (ss : List System) (place : ℕ) → h .flags ≡ take 6 (drop 12 (bitsOf (now (octets .entry)))) → MaskOf ss place mask → BlocksRead h own ss (bitsOf (now (octets .entry))) at lent mask r) ⌝ }
 {
     let s = skip_orbits(octets, at, mask);
@@ -231,9 +231,23 @@ fn needs_mask(octets: &[u8]) -> bool
         || bits::bit_at(octets, 17)
 }
 
+// Whether the lent mask does not serve for a Mask ID: it is absent, has another ID or does not read.
+pub fn lacks_mask(mask_id: u64, mask: &[u8], id: u64) -> bool
+    ensures { λ r. ⌜ r ≡ isNone (lentFor (record { id = «mask_id»; octets = now (mask .entry) }) id) ⌝ }
+{
+    if mask_id != id {
+        return true;
+    }
+    let m = read_mask(mask, 0);
+    match m {
+        MaskRead::Got(_, _) => false,
+        MaskRead::Refused(_) => true,
+    }
+}
+
 // A message that uses the lent mask.
 fn plan_lent(octets: &[u8], mask_id: u64, mask: &[u8]) -> PlanRead
-    requires { ⌜ (length (now octets) ≤ 1696) × (53 ≤ length (now octets)) ⌝ }
+    requires { ⌜ (length (now octets) ≤ 20480) × (4 ≤ length (now octets)) ⌝ }
     ensures { λ r. ⌜ ((h : Header) → header (bitsOf (now (octets .entry))) 0 ≡ got h 32 → needsMask h ≡ true → LentRead (record { id = «mask_id»; octets = now (mask .entry) }) h (now (octets .entry)) r) ⌝ }
 {
     if mask_id != bits::number_at(octets, 22, 5) {
@@ -248,7 +262,7 @@ fn plan_lent(octets: &[u8], mask_id: u64, mask: &[u8]) -> PlanRead
 
 // The whole message: its header, the mask that it uses, and the blocks behind it.
 pub fn plan_message(octets: &[u8], mask_id: u64, mask: &[u8]) -> PlanRead
-    requires { ⌜ (length (now octets) ≤ 1696) × (53 ≤ length (now octets)) ⌝ }
+    requires { ⌜ (length (now octets) ≤ 20480) × (4 ≤ length (now octets)) ⌝ }
     ensures { λ r. ⌜ MessageRead (record { id = «mask_id»; octets = now (mask .entry) }) (now (octets .entry)) r ⌝ }
 {
     if bits::number_at(octets, 0, 12) > 3599 {

@@ -27,7 +27,7 @@ pub struct Rows {
 
 // A place further on; 0 stays 0.
 pub fn onward(place: usize, bits: usize) -> usize
-    requires { ⌜ (place ≤ 30000) × (bits ≤ 30000) ⌝ }
+    requires { ⌜ (place ≤ 200000) × (bits ≤ 30000) ⌝ }
     ensures { λ r. ⌜ r ≡ cond (eqb place 0) 0 (place + bits) ⌝ }
 {
     if place == 0 { 0 } else { place + bits }
@@ -173,7 +173,7 @@ pub fn system_record(
 
 // Where the subset clock of a system's nth satellite stands, of which k were chosen before it; 0 if it is not chosen.
 fn subset_clock_at(octets: &[u8], part: usize, satellites: usize, n: usize, k: usize) -> usize
-    requires { ⌜ (part ≤ 20000) × (satellites ≤ 40) × (n < satellites) × (k ≤ n) ⌝ }
+    requires { ⌜ (part ≤ 200000) × (satellites ≤ 40) × (n < satellites) × (k ≤ n) ⌝ }
     ensures { λ r. ⌜ ((s : Option Subset) → Stands (bitsOf (now (octets .entry))) part partBits s → SubsetFits satellites s → k ≡ chosenBefore s n → Stands (bitsOf (now (octets .entry))) r (bits 13) (subsetClock s n)) ⌝ }
 {
     if part == 0 {

@@ -44,7 +44,7 @@ pub enum SubsetRead {
 
 // A system's part behind its GNSS ID: multiplier, a bit for each satellite, a clock for each chosen one.
 fn skip_part(octets: &[u8], at: usize, satellites: usize) -> Step
-    requires { ⌜ (at ≤ 13568) × (satellites ≤ 40) × (length (now octets) ≤ 1696) ⌝ }
+    requires { ⌜ (at ≤ 163840) × (satellites ≤ 40) × (length (now octets) ≤ 20480) ⌝ }
     ensures { λ r. ⌜ ((ss : List System) (id : ℕ) → satellites ≡ count (satellitesOf ss id) → r ≡ stepOf (subsetSystem ss id (bitsOf (now (octets .entry))) at)) ⌝ }
 {
     let s = skip(octets, at, 2);
@@ -110,7 +110,7 @@ fn last_id(mask: MaskPlan) -> u64
 
 // One system of the subset, where one of an ID came: the plan with it, its ID, and the place behind it.
 fn read_part(octets: &[u8], at: usize, mask: MaskPlan, came: u64, plan: SubsetPlan) -> PartRead
-    requires { ⌜ (at ≤ 8 * length (now octets)) × (length (now octets) ≤ 1696) × (1 ≤ mask .systems) × MaskMade mask ⌝ }
+    requires { ⌜ (at ≤ 8 * length (now octets)) × (length (now octets) ≤ 20480) × (1 ≤ mask .systems) × MaskMade mask ⌝ }
     ensures { λ r. ⌜ ((ss : List System) (place : ℕ) → MaskOf ss place mask → PartReads ss mask came plan (bitsOf (now (octets .entry))) at r) ⌝ }
 {
     let first = mask.first;
@@ -137,7 +137,7 @@ fn part_refusal(p: PartRead) -> RefusalAt
 
 // One or two systems of the subset.
 fn read_parts(octets: &[u8], at: usize, mask: MaskPlan, n: u64) -> SubsetRead
-    requires { ⌜ (at ≤ 8 * length (now octets)) × (length (now octets) ≤ 1696) × (1 ≤ n) × (n ≤ mask .systems) × MaskMade mask ⌝ }
+    requires { ⌜ (at ≤ 8 * length (now octets)) × (length (now octets) ≤ 20480) × (1 ≤ n) × (n ≤ mask .systems) × MaskMade mask ⌝ }
     ensures { λ r. ⌜ ((ss : List System) (place : ℕ) → MaskOf ss place mask → PartsRead ss n (bitsOf (now (octets .entry))) at r) ⌝ }
 {
     let none = SubsetPlan {
@@ -160,7 +160,7 @@ fn read_parts(octets: &[u8], at: usize, mask: MaskPlan, n: u64) -> SubsetRead
 
 // The clock subset block at a place.
 pub fn read_subset(octets: &[u8], at: usize, mask: MaskPlan) -> SubsetRead
-    requires { ⌜ (at ≤ 8 * length (now octets)) × (length (now octets) ≤ 1696) × MaskMade mask ⌝ }
+    requires { ⌜ (at ≤ 8 * length (now octets)) × (length (now octets) ≤ 20480) × MaskMade mask ⌝ }
     ensures { λ r. ⌜ ((ss : List System) (place : ℕ) → MaskOf ss place mask → SubsetReads ss (bitsOf (now (octets .entry))) at r) ⌝ }
 {
     let s = skip_interval(octets, at);

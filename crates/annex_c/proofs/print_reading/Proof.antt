@@ -53,6 +53,28 @@ write-all-requires-3 c κs = search needs
 returns-2 : tie.Need-returns-2
 returns-2 c = search needs
 
+array-share-prefix-message-2 : tie.Need-array-share-prefix-message-2
+array-share-prefix-message-2 c = search needs
+
+slice-aggregate-is-written-again : tie.Need-slice-aggregate-is-written-again
+slice-aggregate-is-written-again c =
+    sym (length-take-le 795 (c .before .before .before .before .before .before .before .before .before .before .before .before .before .before .before .args .t1) (search needs))
+
+is-written-again-requires : tie.Need-is-written-again-requires
+is-written-again-requires c κs = search needs
+
+slice-aggregate-write-all-4 : tie.Need-slice-aggregate-write-all-4
+slice-aggregate-write-all-4 c = search needs
+
+write-all-requires-4 : tie.Need-write-all-requires-4
+write-all-requires-4 c κs = search needs
+
+returns-3 : tie.Need-returns-3
+returns-3 c = search needs
+
+returns-4 : tie.Need-returns-4
+returns-4 c = search needs
+
 pub print-reading-spec : {M : Type 1} → statement M
 print-reading-spec =
     tie.close
@@ -72,4 +94,11 @@ print-reading-spec =
     print-decimal-requires
     slice-aggregate-write-all-3
     write-all-requires-3
-    returns-2)
+    returns-2
+    array-share-prefix-message-2
+    slice-aggregate-is-written-again
+    is-written-again-requires
+    slice-aggregate-write-all-4
+    write-all-requires-4
+    returns-3
+    returns-4)

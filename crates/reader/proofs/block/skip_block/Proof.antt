@@ -41,25 +41,25 @@ first-ends : (u : tie.After-u) → let a = start (first (second u)) .args in
     stepOf (times (a .first) (forEach (widthsOf (a .v)) field) (bitsOf (a .octets .now)) (second u .t .given .0 .0)) ≡ step.At (u .u .given .0 .0)
 first-ends u = sym (u .before .before .skip-items2 .ensures) ∙ u .u .given .1
 
-short : (i : tie.Start) → length (bitsOf (i .args .octets .now)) ≤ 13568
+short : (i : tie.Start) → length (bitsOf (i .args .octets .now)) ≤ 163840
 short i = omega (arith, length-bitsOf (i .args .octets .now), i .pre .1)
 
-interval-near : (s : tie.After-s) → s .s .given .0 .0 ≤ 13568
+interval-near : (s : tie.After-s) → s .s .given .0 .0 ≤ 163840
 interval-near s =
     let i = start s in
     omega (arith, interval-end (bitsOf (i .args .octets .now)) (i .args .at) _ (interval-ends s) .1, short i)
 
-multipliers-near : (t : tie.After-t) → t .t .given .0 .0 ≤ 13568
+multipliers-near : (t : tie.After-t) → t .t .given .0 .0 ≤ 163840
 multipliers-near t =
     let a = start (first t) .args in
-    items-end (bitsOf (a .octets .now)) 13568 (a .multipliers) 2 0 0 0 (first t .s .given .0 .0) _ (short (start (first t))) (interval-near (first t)) (multipliers-end t)
+    items-end (bitsOf (a .octets .now)) 163840 (a .multipliers) 2 0 0 0 (first t .s .given .0 .0) _ (short (start (first t))) (interval-near (first t)) (multipliers-end t)
 
-first-near : (u : tie.After-u) → u .u .given .0 .0 ≤ 13568
+first-near : (u : tie.After-u) → u .u .given .0 .0 ≤ 163840
 first-near u =
     let t = second u in
     let a = start (first t) .args in
     let v = a .v in
-    items-end (bitsOf (a .octets .now)) 13568 (a .first) (v .a) (v .b) (v .c) (v .d) (t .t .given .0 .0) _ (short (start (first t))) (multipliers-near t) (first-ends u)
+    items-end (bitsOf (a .octets .now)) 163840 (a .first) (v .a) (v .b) (v .c) (v .d) (t .t .given .0 .0) _ (short (start (first t))) (multipliers-near t) (first-ends u)
 
 skip-interval-requires : tie.Need-skip-interval-requires
 skip-interval-requires c κs = search needs

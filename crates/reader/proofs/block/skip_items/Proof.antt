@@ -13,7 +13,7 @@ use Rattle.reader.proofs.block.skip_items.Tie as tie
 
 abbrev Inv-loop : tie.InvT-loop
 Inv-loop octets at n w place₀ k₀ place k =
-    (k ≤ n) × (place ≤ 13568)
+    (k ≤ n) × (place ≤ 163840)
     × (stepOf (times (n - k) (forEach (widthsOf w) field) (bitsOf octets) place) ≡ stepOf (times n (forEach (widthsOf w) field) (bitsOf octets) at))
 
 abbrev μ-loop : tie.MeasureT-loop

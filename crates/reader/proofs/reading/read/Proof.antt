@@ -1,42 +1,18 @@
--- The checks are those of the definition, in its order; a message that is planned is one that is read, and its records are written.
-use Prim.Native.Nat.{_/_, _%_}
+-- Octets that are not pages are refused at once; of pages, what is read is what `read_octets` reads.
+use Prim.Native.Nat.{_%_}
 use native.Mathlib.Omega.{arith}
-use mathlib.Core.Bool.{true}
 use mathlib.Core.Logic.{⊎-elim}
-use mathlib.Core.Path.{_≡_, subst}
 use lib.Dec.{eqb}
 use lib.ListN.{length}
 use borrow.Author.Needs.{needs}
 use borrow.Author.Tests.{ltb-true, ltb-false, eqb-true, eqb-false, not-true, not-false}
-use Rattle.pagecode.specs.Encode.{arePages}
 use Rattle.reader.specs.Reader.{Call}
-use Rattle.reader.specs.declared.plan.PlanRead.the-variants.{Got}
-use Rattle.reader.specs.Steps.{MessageRead}
-use Rattle.reader.proofs.Answers.{not-pages, pages, bad-length, bad-room, bad-message, from-source, reads-message}
+use Rattle.reader.proofs.Answers.{not-pages, bad-pages, reads-pages}
 use Rattle.reader.proofs.reading.read.Statement.{statement}
 use Rattle.reader.proofs.reading.read.Tie as tie
 
 abbrev call : tie.Start → Call
 call s = record { octets = s .args .message .now; lent = record { id = s .args .mask-id; octets = s .args .mask .now }; room = length (s .args .records .now) }
-
--- past the first check the octets are pages
-abbrev begun : tie.Else3 → tie.Start
-begun c = c .before .before .before .before .before .before
-
-are-pages : (c : tie.Else3) → arePages (length (begun c .args .message .now) / 53) (length (begun c .args .message .now)) ≡ true
-are-pages c =
-    let n = length (begun c .args .message .now) in
-    pages n (omega (arith, c .before .before .if1 .left)) (ltb-false 1696 n (c .before .if2 .left)) (eqb-true (n % 53) 0 (not-false (eqb (n % 53) 0) (c .if3 .left)))
-
--- past the second the buffer has its length
-abbrev planning : tie.After-known-told → tie.Else4
-planning c = c .before .before .before .before
-
--- the plan is one of the message
-message-read : (c : tie.After-known-told) → MessageRead (call (begun (planning c .before)) .lent) (begun (planning c .before) .args .message .now) (Got (c .before .p .given .0 .0))
-message-read c =
-    let start = begun (planning c .before) in
-    subst (MessageRead (call start .lent) (start .args .message .now)) (c .before .p .given .1) (c .before .before .before .plan-message .ensures)
 
 refuse-requires : tie.Need-refuse-requires
 refuse-requires c κs = search needs
@@ -45,92 +21,22 @@ returns : tie.Need-returns
 returns c =
     let start = c .before .before .before .before .before in
     let n = length (start .args .message .now) in
-    bad-length (call start) (start .args .records .now)
+    bad-pages (call start) (start .args .records .now)
     (not-pages n λ x y z. ⊎-elim (λ w. omega (arith, w .taken, x)) (⊎-elim (λ w. omega (arith, ltb-true 1696 n (w .1 .taken), y)) (λ w. eqb-false (n % 53) 0 (not-true (eqb (n % 53) 0) (w .2 .taken)) z)) (c .before .if1 .came)) (c .refuse .ensures)
 
-refuse-requires-2 : tie.Need-refuse-requires-2
-refuse-requires-2 c κs = search needs
-
-returns-2 : tie.Need-returns-2
-returns-2 c =
-    let e = c .before .before in
-    let start = begun e in
-    bad-room (call start) (start .args .records .now) (are-pages e) (c .before .if4 .taken) (c .refuse2 .ensures)
-
-plan-message-requires : tie.Need-plan-message-requires
-plan-message-requires c κs = search needs
-
-enum-known-p : tie.Need-enum-known-p
-enum-known-p c = search needs
-
-enum-told : tie.Need-enum-told
-enum-told c = search needs
-
-plan-refusal-requires : tie.Need-plan-refusal-requires
-plan-refusal-requires c κs = search needs
-
-returns-3 : tie.Need-returns-3
-returns-3 c =
-    let b = c .before .before .before in
-    let start = begun (b .before .before) in
-    bad-message (call start) (start .args .records .now) (are-pages (b .before .before)) (b .before .if4 .left) (b .plan-message .result) (b .plan-message .ensures) (c .before .enum-told .given .1) (c .plan-refusal .ensures)
-
-emit-message-requires : tie.Need-emit-message-requires
-emit-message-requires c κs =
-    let k = c .before .before in
-    let e = planning k in
-    let (m, end, ss, r, t) = message-read k in
-    (e .if4 .left, (call (begun (e .before)) .lent, m, ss, from-source (c .before .if5 .taken) t))
+read-octets-requires : tie.Need-read-octets-requires
+read-octets-requires c κs = search needs
 
 same-length : tie.Need-same-length
 same-length c = search needs
 
-returns-4 : tie.Need-returns-4
-returns-4 c =
-    let k = c .before .before .before .before .before in
-    let e = planning k in
-    let start = begun (e .before) in
-    let (m, end, ss, r, t) = message-read k in
-    let u = from-source (c .before .before .before .before .if5 .taken) t in
-    let (i, j) = c .before .before .emit-message .ensures (call start .lent) m ss u in
-    reads-message (call start) (start .args .records .now) (are-pages (e .before)) (e .if4 .left) m end ss _ (start .args .mask .now) _ (c .before .before .emit-message .result) r u i j
-
-emit-message-requires-2 : tie.Need-emit-message-requires-2
-emit-message-requires-2 c κs =
-    let k = c .before .before in
-    let e = planning k in
-    let (m, end, ss, r, t) = message-read k in
-    (e .if4 .left, (call (begun (e .before)) .lent, m, ss, from-source (c .before .if5 .left) t))
-
-same-length-2 : tie.Need-same-length-2
-same-length-2 c = search needs
-
-returns-5 : tie.Need-returns-5
-returns-5 c =
-    let k = c .before .before .before .before .before in
-    let e = planning k in
-    let start = begun (e .before) in
-    let (m, end, ss, r, t) = message-read k in
-    let u = from-source (c .before .before .before .before .if5 .left) t in
-    let (i, j) = c .before .before .emit-message2 .ensures (call start .lent) m ss u in
-    reads-message (call start) (start .args .records .now) (are-pages (e .before)) (e .if4 .left) m end ss _ (start .args .message .now) _ (c .before .before .emit-message2 .result) r u i j
+returns-2 : tie.Need-returns-2
+returns-2 c =
+    let e = c .before .before .before .before in
+    let start = e .before .before .before .before .before .before in
+    let n = length (start .args .message .now) in
+    reads-pages (call start) (start .args .records .now) _ _ (omega (arith, e .before .before .if1 .left)) (ltb-false 1696 n (e .before .if2 .left)) (eqb-true (n % 53) 0 (not-false (eqb (n % 53) 0) (e .if3 .left)))
+    (c .before .before .read-octets .ensures)
 
 pub read-spec : {M : Type 1} → statement M
-read-spec =
-    tie.close
-    (tie.spec
-    refuse-requires
-    returns
-    refuse-requires-2
-    returns-2
-    plan-message-requires
-    enum-known-p
-    enum-told
-    plan-refusal-requires
-    returns-3
-    emit-message-requires
-    same-length
-    returns-4
-    emit-message-requires-2
-    same-length-2
-    returns-5)
+read-spec = tie.close (tie.spec refuse-requires returns read-octets-requires same-length returns-2)

@@ -30,7 +30,7 @@ signed-at-requires-2 c κs = search needs
 onward-requires-3 : tie.Need-onward-requires-3
 onward-requires-3 c κs =
     let a = c .before .before .before .before .before .args in
-    (onwards-le (a .rows .phase) (a .n * 13) 30000 (c .before .onward2 .ensures) (search needs), search needs)
+    (onwards-le (a .rows .phase) (a .n * 13) 200000 (c .before .onward2 .ensures) (search needs), search needs)
 
 octet-at-requires : tie.Need-octet-at-requires
 octet-at-requires c κs = search needs

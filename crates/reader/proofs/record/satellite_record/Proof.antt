@@ -28,11 +28,11 @@ onward-requires c κs =
     (search needs, omega (arith, o))
 
 -- the orbit's place
-near : (c : tie.After-onward) → c .onward .result ≤ 30000
+near : (c : tie.After-onward) → c .onward .result ≤ 200000
 near c =
     let s = c .before .before .before in
     let w = s .args .rows .iod in
-    onwards-le (s .args .rows .orbit) (s .args .n * (w + 37)) 30000 (c .onward .ensures) (omega (arith, s .pre .0 .orbit, orbit-room (s .args .n) w (search needs) (search needs)))
+    onwards-le (s .args .rows .orbit) (s .args .n * (w + 37)) 200000 (c .onward .ensures) (omega (arith, s .pre .0 .orbit, orbit-room (s .args .n) w (search needs) (search needs)))
 
 iod-at-requires : tie.Need-iod-at-requires
 iod-at-requires c κs = search needs

@@ -27,7 +27,7 @@ bits-end : (t : tie.After-t) → let a = start (first t) .args in
     stepOf (raw (a .satellites) (bitsOf (a .octets .now)) (first t .s .given .0 .0)) ≡ step.At (t .t .given .0 .0)
 bits-end t = sym (t .before .before .skip2 .ensures) ∙ t .t .given .1
 
-near : (s : tie.After-s) → (s .s .given .0 .0 ≤ 20000) × (start s .args .satellites ≤ 20000)
+near : (s : tie.After-s) → (s .s .given .0 .0 ≤ 200000) × (start s .args .satellites ≤ 20000)
 near s =
     let i = start s in
     (omega (arith, raw-end (bitsOf (i .args .octets .now)) 2 (i .args .at) _ (multiplier-ends s) .0, i .pre .0), omega (arith, i .pre .1))
