@@ -25,10 +25,19 @@ unfolding bitsOf
 bitsOf-append [] t = refl
 bitsOf-append (x ∷ s) t = ap (λ (r : List Bool). bits 8 x ++ r) (bitsOf-append s t) ∙ sym (append-assoc (bits 8 x) (bitsOf s) (bitsOf t))
 
+-- the bits of the first octets
+length-front : (s : List ℕ) (n : ℕ) → n ≤ length s → length (bitsOf (take n s)) ≡ 8 * n
+length-front s n h = omega (arith, length-bitsOf (take n s), length-take-le n s h)
+
+pub bitsOf-take : (s : List ℕ) (n : ℕ) → n ≤ length s → bitsOf (take n s) ≡ take (8 * n) (bitsOf s)
+bitsOf-take s n h =
+    sym (take-at (bitsOf (take n s)) (bitsOf (drop n s)) (8 * n) (length-front s n h))
+    ∙ ap (take (8 * n)) (sym (bitsOf-append (take n s) (drop n s)) ∙ ap bitsOf (take-append-drop n s))
+
 -- ---- an octet: its bits stand behind those of the octets before it
 module _ (s : List ℕ) (q : ℕ) (here : q < length s) where
-  pub length-before : length (bitsOf (take q s)) ≡ 8 * q
-  length-before = omega (arith, length-bitsOf (take q s), length-take-le q s (omega arith))
+  length-before : length (bitsOf (take q s)) ≡ 8 * q
+  length-before = length-front s q (omega arith)
 
   octet-split : bitsOf s ≡ bitsOf (take q s) ++ (bits 8 (getD s q 0) ++ bitsOf (drop (suc q) s))
   unfolding bitsOf
@@ -82,10 +91,6 @@ octets-of-bits s h =
     let e : length (bitsOf s) / 8 ≡ length s = omega (arith, length-bitsOf s) in
     ap (λ (n : ℕ). octets n (bitsOf s)) e ∙ octets-again s h
 
--- so the bits settle the octets
-pub bits-settle : (s t : List ℕ) → ((i : ℕ) → getD s i 0 < 256) → ((i : ℕ) → getD t i 0 < 256) → bitsOf s ≡ bitsOf t → s ≡ t
-bits-settle s t h k e = sym (octets-of-bits s h) ∙ ap octetsOf e ∙ octets-of-bits t k
-
 bits-again : (k : ℕ) (bs : List Bool) → length bs ≡ 8 * k → bitsOf (octets k bs) ≡ bs
 unfolding octets bitsOf
 bits-again zero [] e = refl
@@ -93,11 +98,11 @@ bits-again zero (b ∷ bs) e = absurd (let z : ⊥ = omega arith in z)
 bits-again (suc k) bs e =
     let n : length (take 8 bs) ≡ 8 = length-take-le 8 bs (omega arith) in
     ap₂ (λ (x y : List Bool). x ++ y)
-    (ap (λ (m : ℕ). bits m (value (take 8 bs))) (sym n) ∙ bits-value (take 8 bs))
+    (bits-value 8 (take 8 bs) n)
     (bits-again k (drop 8 bs) (omega (arith, length-drop 8 bs)))
     ∙ take-append-drop 8 bs
 
--- and octets settle the bits, where those are whole octets
+-- of bits that are whole octets
 pub bits-of-octets : (k : ℕ) (bs : List Bool) → length bs ≡ 8 * k → bitsOf (octetsOf bs) ≡ bs
 unfolding octetsOf
 bits-of-octets k bs e =

@@ -45,7 +45,7 @@ module _ (x k : ℕ) (hx : x < 256) (hk : k < 8) where
 
   -- a number that is x with that bit made w has x's bits with that one set
   bits-set : (y : ℕ) (w : Bool) → value (set (bits 8 x) k w) ≡ y → bits 8 y ≡ set (bits 8 x) k w
-  bits-set y w e = ap (bits 8) (sym e) ∙ rw (set-length w) at (bits-value (set (bits 8 x) k w))
+  bits-set y w e = ap (bits 8) (sym e) ∙ bits-value 8 (set (bits 8 x) k w) (set-length w)
 
   set-lt : (w : Bool) → value (set (bits 8 x) k w) < 256
   set-lt w = rw (set-length w) at (value-lt (set (bits 8 x) k w))

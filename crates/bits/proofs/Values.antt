@@ -33,6 +33,15 @@ pub num-is : (b : Bool) → eqb (num b) 1 ≡ b
 num-is true = refl
 num-is false = refl
 
+pub num-few : (b : Bool) → num b ≤ 1
+num-few true = omega arith
+num-few false = omega arith
+
+pub bit-one : (b : Bool) → bits 1 (num b) ≡ b ∷ []
+unfolding bits
+bit-one true = refl
+bit-one false = refl
+
 -- ---- a number's bits
 pub length-bits : (n v : ℕ) → length (bits n v) ≡ n
 unfolding bits
@@ -45,7 +54,7 @@ bits-at zero v i h = absurd (let z : ⊥ = omega arith in z)
 bits-at (suc n) v zero h = let e : suc n - 1 - 0 ≡ n = omega arith in rw e
 bits-at (suc n) v (suc i) h = let e : suc n - 1 - suc i ≡ n - 1 - i = omega arith in rw e (bits-at n v i (omega arith))
 
-pub bits-split : (a b v : ℕ) → bits (a + b) v ≡ bits a (v / 2 ^ b) ++ bits b v
+bits-split : (a b v : ℕ) → bits (a + b) v ≡ bits a (v / 2 ^ b) ++ bits b v
 unfolding bits
 bits-split zero b v = rw zero-add
 bits-split (suc a) b v =
@@ -87,13 +96,21 @@ value-bits (suc n) v =
     ∙ ap (λ (x : ℕ). v / 2 ^ n % 2 * 2 ^ n + x) (value-bits n v)
     ∙ sym (ap (λ (x : ℕ). v % 2 ^ x) (sym (one-add n)) ∙ mod-pow-add v 1 n)
 
-pub bits-value : (bs : List Bool) → bits (length bs) (value bs) ≡ bs
+all-bits : (bs : List Bool) → bits (length bs) (value bs) ≡ bs
 unfolding bits value
-bits-value [] = refl
-bits-value (b ∷ bs) =
+all-bits [] = refl
+all-bits (b ∷ bs) =
     ap₂ {C = List Bool} (λ (x : Bool) (y : List Bool). x ∷ y)
     (ap odd (high (num b) (length bs) (value-lt bs)) ∙ odd-num b)
-    (bits-add (length bs) (num b) (value bs) ∙ bits-value bs)
+    (bits-add (length bs) (num b) (value bs) ∙ all-bits bs)
+
+pub bits-value : (n : ℕ) (bs : List Bool) → length bs ≡ n → bits n (value bs) ≡ bs
+bits-value n bs e = ap (λ (k : ℕ). bits k (value bs)) (sym e) ∙ all-bits bs
+
+-- so numbers that are alike in n bits have the same n bits
+pub bits-low : (n v w : ℕ) → v % 2 ^ n ≡ w % 2 ^ n → bits n v ≡ bits n w
+bits-low n v w e =
+    sym (bits-value n (bits n v) (length-bits n v)) ∙ ap (bits n) (value-bits n v ∙ e ∙ sym (value-bits n w)) ∙ bits-value n (bits n w) (length-bits n w)
 
 -- m of w bits, from the o-th on
 pub bits-part : (w x o m : ℕ) → o + m ≤ w → value (take m (drop o (bits w x))) ≡ x / 2 ^ (w - o - m) % 2 ^ m

@@ -5,8 +5,8 @@ use mathlib.Core.List.{List, [], _∷_, _++_, append-assoc, append-nil}
 use Prim.Native.Nat.{ℕ, suc, _+_, _-_, _≤_, _<_}
 use native.Mathlib.Numerals.{add-one}
 use native.Mathlib.Omega.{arith}
-use lib.ListN.{length, getD, set, take, drop, length-append, length-drop, take-append-drop, drop-of-length-le}
-use lib.Seq.{take-all, take-at, drop-at, drop-drop, take-append-seam, take-append-le, drop-append-le, take-append-add, drop-append-add, set-split, length-take-le, paste, paste-zero, paste-suc}
+use lib.ListN.{length, getD, set, take, drop, length-append, length-drop, drop-of-length-le}
+use lib.Seq.{take-all, take-at, drop-at, drop-drop, take-append-le, drop-append-le, take-append-add, drop-append-add, set-split, length-take-le, paste, paste-zero, paste-suc}
 use Rattle.lists.specs.Lists.{laid}
 
 -- ---- laws
@@ -18,11 +18,6 @@ laid-over {A} d l h = ap (λ (r : List A). l ++ r) (drop-of-length-le d {i = 0 +
 pub laid-one : {A : Type 0} (d : List A) (at : ℕ) (x : A) → at < length d → set d at x ≡ laid d at (x ∷ [])
 unfolding laid
 laid-one d at x h = set-split d at x h ∙ ap (λ (n : ℕ). take at d ++ (x ∷ drop n d)) (sym (add-one at))
-
-front : {A : Type 0} (p q : List A) (a m : ℕ) → a + m ≤ length p → take m (drop a (p ++ q)) ≡ take m (drop a p)
-front p q a m h =
-    ap (take m) (drop-append-le a p q (omega arith))
-    ∙ take-append-le m (drop a p) q (omega (arith, length-drop a p))
 
 module _ {A : Type 0} (d : List A) (at : ℕ) (l : List A) (room : at + length l ≤ length d) where
   head : length (take at d) ≡ at
@@ -36,18 +31,8 @@ module _ {A : Type 0} (d : List A) (at : ℕ) (l : List A) (room : at + length l
   unfolding laid
   laid-length = simp (length-append, length-drop, head) (omega arith)
 
-  -- what stands there, before it and behind it
-  pub laid-here : take (length l) (drop at (laid d at l)) ≡ l
-  laid-here = ap (take (length l)) from ∙ take-append-seam l (drop (at + length l) d)
-
-  pub laid-before : (a m : ℕ) → a + m ≤ at → take m (drop a (laid d at l)) ≡ take m (drop a d)
-  unfolding laid
-  laid-before a m h =
-      front (take at d) (l ++ drop (at + length l) d) a m (omega (arith, head))
-      ∙ sym (front (take at d) (drop at d) a m (omega (arith, head)))
-      ∙ ap (λ (r : List A). take m (drop a r)) (take-append-drop at d)
-
-  pub laid-after : (a : ℕ) → at + length l ≤ a → drop a (laid d at l) ≡ drop a d
+  -- what stands behind it
+  laid-after : (a : ℕ) → at + length l ≤ a → drop a (laid d at l) ≡ drop a d
   laid-after a h =
       ap (λ (k : ℕ). drop k (laid d at l)) far
       ∙ sym (drop-drop (length l + j) at (laid d at l))
@@ -65,21 +50,27 @@ module _ {A : Type 0} (d : List A) (at : ℕ) (l : List A) (room : at + length l
       near : at + length l + j ≡ a
       near = omega arith
 
+-- the front, up to the end of what is laid
+pub laid-take : {A : Type 0} (d : List A) (at : ℕ) (l : List A) → at ≤ length d → take (at + length l) (laid d at l) ≡ take at d ++ l
+unfolding laid
+laid-take d at l h =
+    ap (take (at + length l)) (sym (append-assoc (take at d) l (drop (at + length l) d)))
+    ∙ take-at (take at d ++ l) (drop (at + length l) d) (at + length l) (omega (arith, length-append (take at d) l, length-take-le at d h))
+
+pub laid-front : {A : Type 0} (d l : List A) (n : ℕ) → length l ≡ n → take n (laid d 0 l) ≡ l
+unfolding laid
+laid-front d l n e = take-at l (drop (0 + length l) d) n e
+
 -- one laid behind another is both laid at once
 pub laid-laid : {A : Type 0} (d : List A) (at : ℕ) (l m : List A) → at + (length l + length m) ≤ length d
     → laid (laid d at l) (at + length l) m ≡ laid d at (l ++ m)
 unfolding laid
 laid-laid {A} d at l m h =
-    ap₂ (λ (u v : List A). u ++ (m ++ v)) first (laid-after d at l (omega arith) (at + length l + length m) (omega arith))
+    ap₂ (λ (u v : List A). u ++ (m ++ v)) (laid-take d at l (omega arith)) (laid-after d at l (omega arith) (at + length l + length m) (omega arith))
     ∙ append-assoc (take at d) l (m ++ drop (at + length l + length m) d)
     ∙ ap (λ (r : List A). take at d ++ r) (sym (append-assoc l m (drop (at + length l + length m) d)))
     ∙ ap (λ (n : ℕ). take at d ++ ((l ++ m) ++ drop n d)) both
   where
-    first : take (at + length l) (take at d ++ (l ++ drop (at + length l) d)) ≡ take at d ++ l
-    first =
-        ap (take (at + length l)) (sym (append-assoc (take at d) l (drop (at + length l) d)))
-        ∙ take-at (take at d ++ l) (drop (at + length l) d) (at + length l) (length-append (take at d) l ∙ ap (λ (k : ℕ). k + length l) (head d at l (omega arith)))
-
     both : at + length l + length m ≡ at + length (l ++ m)
     both = omega (arith, length-append l m)
 
@@ -102,7 +93,7 @@ laid-second {A} a b at n l e =
 
 -- ---- the loop
 -- j elements are laid as the library's `paste` lays them
-pub laid-paste : {A : Type 0} (d : List A) (at : ℕ) (l : List A) (j : ℕ) → j ≤ length l → laid d at (take j l) ≡ paste d at l j
+laid-paste : {A : Type 0} (d : List A) (at : ℕ) (l : List A) (j : ℕ) → j ≤ length l → laid d at (take j l) ≡ paste d at l j
 unfolding laid
 laid-paste d at l j h = ap (λ (n : ℕ). take at d ++ (take j l ++ drop (at + n) d)) (length-take-le j l h) ∙ sym (append-assoc (take at d) (take j l) (drop (at + j) d))
 

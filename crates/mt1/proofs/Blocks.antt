@@ -5,11 +5,12 @@ use native.Mathlib.Omega.{arith}
 use mathlib.Core.Bool.{Bool}
 use mathlib.Core.List.{List, [], _∷_, _++_}
 use mathlib.Core.Path.{_≡_, refl}
-use lib.Dec.{ltb}
+use lib.Dec.{eqb, ltb}
 use lib.ListN.{length}
 use borrow.Author.Tests.{ltb-true, lt-ltb}
 use Rattle.bits.specs.Bits.{bits}
 use Rattle.lists.specs.Lists.{Every}
+use Rattle.lists.proofs.Tests.{cond-holds}
 use Rattle.refusal.specs.declared.Refusal.the-variants as refusal
 use Rattle.mt1.specs.Parse.{Parser}
 use Rattle.mt1.specs.Message.{System, count, cellsOf}
@@ -27,7 +28,10 @@ block-reads P = reads-ok (λ b o. record { interval = o .0; body = o .1 .0 }) (�
     last (λ b. b .body) (λ a. refl) P)
 
 -- ---- orbits
-pub orbit-reads : (id : ℕ) → Reads (orbit id) (OrbitOk id) (orbitBits id)
+pub iod-le : (id : ℕ) → iodBits id ≤ 10
+iod-le id = cond-holds (λ (n : ℕ). n ≤ 10) (eqb id 0) (omega arith) (omega arith)
+
+orbit-reads : (id : ℕ) → Reads (orbit id) (OrbitOk id) (orbitBits id)
 unfolding orbit orbitBits
 orbit-reads id = reads-ok
     (λ x o. record { iod = o .0; radial = o .1 .0; inTrack = o .1 .1 .0; crossTrack = o .1 .1 .1 .0 })
@@ -83,7 +87,7 @@ pub codes-reads : (ss : List System) → Reads (codes ss) (CodesOk ss) codesBits
 unfolding codes codesBits
 codes-reads ss = forEach-same ss (λ s. times-reads (count (cellsOf s)) (field-reads 11))
 
-pub phase-reads : Reads phase PhaseOk phaseBits
+phase-reads : Reads phase PhaseOk phaseBits
 unfolding phase phaseBits
 phase-reads = reads-ok (λ p o. record { bias = o .0; discontinuity = o .1 .0 }) (λ p o. (o .bias, (o .discontinuity, refl)))
     (then (λ p. p .bias) (λ a p o. cc) (field-reads 11) λ b _.

@@ -122,7 +122,7 @@ field-reads n = record {
       let F = raw-reads n .sound bs at b m h q in
       let E : v ≡ value b = cc in
       let M : end ≡ m = cc in
-      let B : bits n (value b) ≡ b = rw (F .ok) at (bits-value b) in
+      let B : bits n (value b) ≡ b = bits-value n b (F .ok) in
       rw (E, M) (record { ok = rw (F .ok) at (value-lt b); span = rw B (F .span) });
 }
 

@@ -2,16 +2,17 @@
 -- Index by index, what has come is as many satellites as are masked before it, and as many cells as their rows have.
 use mathlib.Core.Path.{_≡_, refl, sym, ap, _∙_}
 use mathlib.Core.Bool.{Bool, true, false, cond}
-use mathlib.Core.List.{List, [], _∷_, _++_}
+use mathlib.Core.List.{List, [], _∷_, _++_, append-nil}
 use mathlib.Core.Option.{Option, none, some}
-use Prim.Native.Nat.{ℕ, zero, suc, _+_, _*_, _≤_}
+use Prim.Native.Nat.{ℕ, zero, suc, _+_, _*_, _%_, _≤_, _<_}
 use native.Mathlib.Nat.{add-zero, zero-add, zero-mul, suc-mul, mul-le-mul}
 use native.Mathlib.Omega.{arith}
+use lib.Arith.{digits-lt}
 use lib.Dec.{eqb}
 use lib.ListN.{length, getD, length-append, length-replicate}
 use lib.Seq.{take-all, take-nil}
 use Rattle.lists.specs.Lists.{Every}
-use Rattle.lists.proofs.Tests.{onBool}
+use Rattle.lists.proofs.Tests.{onBool, clash}
 use Rattle.bits.specs.Bits.{num, octets, octetsOf}
 use Rattle.mt1.specs.Message.{System, Message, count, countBefore, cellBits, cellsOf}
 use Rattle.mt1.specs.Valid.{SystemOk}
@@ -27,6 +28,13 @@ count-next (b ∷ bs) (suc i) = omega (arith, count-next bs i)
 pub count-all : (bs : List Bool) (n : ℕ) → length bs ≤ n → countBefore bs n ≡ count bs
 unfolding countBefore
 count-all bs n h = ap count (take-all n bs h)
+
+-- before a bit that is 1 there are fewer than in all
+pub before-lt : (bs : List Bool) (i : ℕ) → getD bs i false ≡ true → countBefore bs i < count bs
+unfolding count countBefore
+before-lt [] i e = clash e refl
+before-lt (b ∷ bs) zero e = rw e (omega arith)
+before-lt (b ∷ bs) (suc i) e = omega (arith, before-lt bs i e)
 
 pub count-le : (bs : List Bool) → count bs ≤ length bs
 unfolding count
@@ -85,7 +93,11 @@ module _ (m : Message) (p : ℕ) (s : System) where
       let f : before i + countBefore (s .signals) (suc g) ≡ x = omega (arith, rw q at e) in
       rw (q, f) (omega arith))
 
-  pub length-cells : (i g : ℕ)
+  -- whole records
+  pub cell-whole : (i g : ℕ) → length (cellRecords m p s i g) % 16 ≡ 0
+  cell-whole i g = omega (arith, cell-on i g)
+
+  length-cells : (i g : ℕ)
       → length (build g (cellRecords m p s i)) + 16 * countBefore (cellsOf s) (before i) ≡ 16 * countBefore (cellsOf s) (before i + countBefore (s .signals) g)
   unfolding build countBefore
   length-cells i zero = rw (add-zero, zero-add)
@@ -109,7 +121,10 @@ module _ (m : Message) (p : ℕ) (s : System) where
       let f : countBefore (s .satellites) (suc i) ≡ n = omega (arith, rw q at e) in
       rw (q, f) (omega arith))
 
-  pub length-satellites : SystemOk s → (i : ℕ)
+  pub satellite-whole : SystemOk s → (i : ℕ) → length (satelliteRecords m p s i) % 16 ≡ 0
+  satellite-whole o i = omega (arith, row-on o i)
+
+  length-satellites : SystemOk s → (i : ℕ)
       → length (build i (satelliteRecords m p s)) ≡ 16 * (countBefore (s .satellites) i + countBefore (cellsOf s) (before i))
   unfolding build countBefore
   length-satellites o zero = rw zero-mul
@@ -122,7 +137,20 @@ unfolding cellsOf
 length-cellsOf s o =
     onBool (eqb (s .cellFlag) 1) (λ q. rw q (rw q at (o .cells))) (λ q. rw q (length-replicate (cellBits (s .satellites) (s .signals)) true))
 
-pub length-systems : (m : Message) (p : ℕ) (ss : List System) → Every SystemOk ss → length (systemRecords m p ss) ≡ 16 * recordCount ss
+-- the place of a masked satellite's masked signal is in it
+pub place-in : (s : System) (i g : ℕ) → getD (s .satellites) i false ≡ true → getD (s .signals) g false ≡ true → cellPlace s i g < cellBits (s .satellites) (s .signals)
+unfolding cellPlace
+place-in s i g e f = digits-lt (before-lt (s .satellites) i e) (before-lt (s .signals) g f)
+
+-- a system's records: its own, then its satellites'
+abbrev pub recordsOfSystem : Message → ℕ → System → List ℕ
+recordsOfSystem m p s = systemRecord m p s ++ build 40 (satelliteRecords m p s)
+
+pub one-system : (m : Message) (p : ℕ) (s : System) → systemRecords m p (s ∷ []) ≡ recordsOfSystem m p s
+unfolding systemRecords
+one-system m p s = ap (λ (l : List ℕ). systemRecord m p s ++ l) (append-nil (build 40 (satelliteRecords m p s)))
+
+length-systems : (m : Message) (p : ℕ) (ss : List System) → Every SystemOk ss → length (systemRecords m p ss) ≡ 16 * recordCount ss
 unfolding systemRecords recordCount
 length-systems m p [] o = refl
 length-systems m p (s ∷ ss) (o, os) =

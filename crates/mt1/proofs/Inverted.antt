@@ -1,6 +1,6 @@
 -- The parser of message type 1 and `encode` are inverse to each other.
 -- Header, mask and blocks are read where their bits stand, one behind another; the systems of the mask that is used are settled by what was read before.
-use Prim.Native.Nat.{ℕ}
+use Prim.Native.Nat.{ℕ, _≤_}
 use native.Mathlib.Omega.{arith}
 use mathlib.Core.Bool.{Bool, true, false}
 use mathlib.Core.List.{List, [], _++_}
@@ -13,7 +13,7 @@ use Rattle.lists.proofs.Tests.{onBool}
 use Rattle.mt1.specs.Parse.{Outcome, got, bad, Parser, _>>=_, fail}
 use Rattle.mt1.specs.Message.{Message, Header, hasMask, hasOrbit, hasClock, hasSubset, hasCode, hasPhase, System, Mask}
 use Rattle.mt1.specs.Mt1.{mask, needsMask, used, orMask, behind, Lent, cleanly, lentFor, message}
-use Rattle.mt1.specs.Records.{systemsIn}
+use Rattle.mt1.specs.Records.{systemsIn, records, recordsOf}
 use Rattle.mt1.specs.Encode.{encode}
 use Rattle.mt1.specs.Valid.{MaskOk, IfFlag, Ok}
 use Rattle.mt1.specs.Inverse.{Inverse}
@@ -34,7 +34,7 @@ given : {B : Type 0} {o : Option (List System)} {k : List System → Parser B} {
     → ((ss : List System) → o ≡ some ss → Reads (k ss) (OkB ss) (encB ss)) → Reads (orMask o >>= k) (λ b. (ss : List System) × (o ≡ some ss) × OkB ss b) (encB (systemsIn o))
 given {o = o} K = bind (λ ss b u r. ((ss, u, r), rw u)) (λ b q. q) (orMask-reads o) K
 
-pub lent-ok : (lent : Lent) (id : ℕ) (m : Mask) → lentFor lent id ≡ some m → MaskOk m
+lent-ok : (lent : Lent) (id : ℕ) (m : Mask) → lentFor lent id ≡ some m → MaskOk m
 unfolding lentFor
 lent-ok lent id m = onBool (eqb (lent .id) id) (λ t. rw t λ e. clean (mask (bitsOf (lent .octets)) 0) refl e) (λ t. rw t λ e. absurd (some-none (sym e)))
   where
@@ -50,7 +50,7 @@ masked false m o = absurd o
 unmasked : Masked []
 unmasked = record { few = omega arith; ids = tt; systems = tt }
 
-pub used-masked : (lent : Option Mask) (h : Header) (own : Option Mask) (ss : List System)
+used-masked : (lent : Option Mask) (h : Header) (own : Option Mask) (ss : List System)
     → ((m : Mask) → lent ≡ some m → MaskOk m) → IfFlag (hasMask h) MaskOk own → used lent h own ≡ some ss → Masked ss
 unfolding used
 used-masked lent h (some m) ss l o = λ u. let e : ss ≡ m .systems = cc in rw e (masked (hasMask h) m o)
@@ -89,3 +89,12 @@ inverse lent = record {
 -- the systems that a message uses are those of a mask, or none
 pub ok-masked : (lent : Lent) (ss : List System) (m : Message) → Ok (lentFor lent (m .header .maskId)) ss m → Masked ss
 ok-masked lent ss m o = used-masked (lentFor lent (m .header .maskId)) (m .header) (m .mask) ss (lent-ok lent (m .header .maskId)) (o .mask) (o .used)
+
+-- and its records are theirs
+pub records-used : (lent : Lent) (ss : List System) (m : Message) → used (lentFor lent (m .header .maskId)) (m .header) (m .mask) ≡ some ss → recordsOf lent m ≡ records ss m
+unfolding recordsOf
+records-used lent ss m e = ap (λ (o : Option (List System)). records (systemsIn o) m) e
+
+-- what is read is no longer than the bit string
+pub end-within : (lent : Lent) (bs : List Bool) (m : Message) (end : ℕ) → message lent bs 0 ≡ got m end → end ≤ length bs
+end-within lent bs m end e = message-reads lent .sound bs 0 m end (omega arith) e .span .fits

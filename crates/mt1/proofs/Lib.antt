@@ -1,9 +1,11 @@
 pub mod Spans
 pub mod Combinators
 pub mod Several
+pub mod Elements
 pub mod Masks
 pub mod Blocks
 pub mod Inverted
 pub mod Signs
 pub mod Counts
+pub mod Building
 pub mod Absences

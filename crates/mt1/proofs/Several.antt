@@ -90,6 +90,13 @@ pub forEach-same : {S A : Type 0} {p : S → Parser A} {Ok : S → A → Type 0}
 forEach-same {Ok = Ok} {enc} ss P = reads-bits (each-of Ok enc ss) (forEach-reads ss P)
 
 -- ---- what may be missing
+-- what is there exactly if its flag is 1, by cases
+pub if-flag : {A : Type 0} (P : A → Type 0) (Q : Bool → Option A → Type 0) → ((x : A) → P x → Q true (some x)) → Q false none → (flag : Bool) (b : Option A) → IfFlag flag P b → Q flag b
+if-flag P Q f g true none o = absurd o
+if-flag P Q f g true (some x) o = f x o
+if-flag P Q f g false none o = g
+if-flag P Q f g false (some x) o = absurd o
+
 pub optional-reads : {A : Type 0} {p : Parser A} {Ok : A → Type 0} {enc : A → List Bool} (flag : Bool) → Reads p Ok enc → Reads (optional flag p) (IfFlag flag Ok) (ifThere enc)
 optional-reads {A} {Ok = Ok} {enc} true P = bind (λ x b o e. rw e (o, sym (append-nil (enc x)))) from P (λ x o. ret-reads (some x))
   where

@@ -17,7 +17,8 @@ use Rattle.mt1.specs.declared.answer.RefusalAt.{RefusalAt}
 use Rattle.mt1.specs.Parse.{Outcome, got, bad, refuse}
 use Rattle.mt1.specs.Message.{System, Message}
 use Rattle.mt1.specs.Mt1.{Lent, message}
-use Rattle.mt1.specs.Records.{records, recordsOf}
+use Rattle.mt1.specs.Records.{records}
+use Rattle.mt1.proofs.Inverted.{records-used}
 use Rattle.reader.specs.declared.reading.ReadAnswer.{ReadAnswer}
 use Rattle.reader.specs.declared.reading.ReadAnswer.the-variants as answer
 use Rattle.reader.specs.declared.plan.Plan.{Plan}
@@ -37,7 +38,7 @@ not-pages n h = onBool (arePages (n / 53) n)
     absurd (h (omega (arith, a)) (omega (arith, d)) (omega (arith, e))))
     (λ t. t)
 
-pages : (n : ℕ) → 53 ≤ n → n ≤ 1696 → n % 53 ≡ 0 → arePages (n / 53) n ≡ true
+pub pages : (n : ℕ) → 53 ≤ n → n ≤ 1696 → n % 53 ≡ 0 → arePages (n / 53) n ≡ true
 unfolding arePages
 pages n a b e = ap₂ _&&_ (le-leb 1 (n / 53) (omega arith)) (ap₂ _&&_ (le-leb (n / 53) 32 (omega arith)) (eq-eqb n (n / 53 * 53) (omega (arith, e))))
 
@@ -55,10 +56,6 @@ same-reading c a b e = let n = length (c .octets) in ap (λ (good : Bool). readi
 
 plan-answers : {plan : Plan} {r : RefusalAt} → plan-read.Got plan ≡ plan-read.Refused r → ⊥
 plan-answers e = let z : _≡_ {A = ℕ} 0 1 = cc in omega arith
-
-uses : {octets sourced : List ℕ} (lent : Lent) (m : Message) (ss : List System) (plan : Plan) → Planned lent octets sourced m ss plan → recordsOf lent m ≡ records ss m
-unfolding recordsOf
-uses lent m ss plan t = rw (t .ok .used)
 
 -- whose octets the mask is in
 pub from-source : {lent : Lent} {octets : List ℕ} {m : Message} {ss : List System} {plan : Plan} {f g : Bool} → f ≡ g
@@ -89,7 +86,7 @@ module _ (c : Call) (before : List ℕ) where
     bad-room h e = refuses readingOctets c before (rw (between (length (c .octets)) l m, ne-eqb (c .room) 21808 h, e))
 
     module _ (h : c .room ≡ 21808) where
-      is-message : readingOctets c ≡ message (c .lent) (bitsOf (c .octets)) 0
+      pub is-message : readingOctets c ≡ message (c .lent) (bitsOf (c .octets)) 0
       unfolding readingOctets
       is-message = rw (between (length (c .octets)) l m, eq-eqb (c .room) 21808 h)
 
@@ -101,5 +98,5 @@ module _ (c : Call) (before : List ℕ) where
           → Planned (c .lent) (c .octets) sourced m ss plan → n ≡ length (records ss m) → after ≡ laid before 0 (records ss m) → Reads readingOctets c before (answer.Records (n / 16)) after
       reads-message m end ss plan sourced after n e t i j =
           let d = is-message ∙ e in
-          let k = uses (c .lent) m ss plan t in
+          let k = records-used (c .lent) ss m (t .ok .used) in
           record { answered = rw (d, k, i); buffer = rw (d, k, j) }

@@ -1,34 +1,23 @@
 -- Records written one behind another, and how long they are.
 -- What is laid behind what is laid is both laid at once; every record has 16 octets, so a satellite's are at most 17 records and a system's 681.
-use Prim.Native.Nat.{ℕ, zero, suc, _+_, _*_, _≤_}
+use Prim.Native.Nat.{ℕ, _+_, _*_, _≤_}
 use native.Mathlib.Nat.{add-zero, mul-suc}
 use native.Mathlib.Numerals.{add-one}
 use native.Mathlib.Omega.{arith}
-use mathlib.Core.Bool.{Bool, true, false, _&&_, cond}
-use mathlib.Core.List.{List, [], _∷_, _++_, append-nil, append-assoc}
+use mathlib.Core.Bool.{false, _&&_}
+use mathlib.Core.List.{List, [], _∷_, _++_, append-assoc}
 use mathlib.Core.Path.{_≡_, sym, ap, ap₂, _∙_}
 use lib.ListN.{length, getD, length-append}
 use Rattle.lists.specs.Lists.{laid}
 use Rattle.lists.proofs.Laid.{laid-none, laid-laid, laid-length}
+use Rattle.lists.proofs.Tests.{if-le}
 use Rattle.mt1.specs.Message.{System, Message, countBefore, cellsOf}
 use Rattle.mt1.specs.Valid.{SystemOk}
 use Rattle.mt1.specs.Records.{systemRecord, satelliteRecord, cellRecord, build, cellPlace, cellRecords, satelliteRecords, systemRecords}
-use Rattle.mt1.proofs.Counts.{length-system, length-satellite, length-cell}
+use Rattle.mt1.proofs.Counts.{length-system, length-satellite, length-cell, recordsOfSystem, one-system}
+use Rattle.mt1.proofs.Building.{build-le, build-next}
 
 -- ---- lengths
-build-next : (n : ℕ) (f : ℕ → List ℕ) → build (n + 1) f ≡ build n f ++ f n
-unfolding build
-build-next n f = ap (λ (k : ℕ). build k f) (add-one n)
-
-pub build-le : (n k : ℕ) (f : ℕ → List ℕ) → ((i : ℕ) → length (f i) ≤ k) → length (build n f) ≤ k * n
-unfolding build
-build-le zero k f h = omega arith
-build-le (suc n) k f h = omega (arith, length-append (build n f) (f n), build-le n k f h, h n, mul-suc k n)
-
-if-le : (b : Bool) (l : List ℕ) (k : ℕ) → length l ≤ k → length (cond b l []) ≤ k
-if-le true l k h = h
-if-le false l k h = omega arith
-
 pub cells-le : (m : Message) (p : ℕ) (s : System) (i g : ℕ) → length (cellRecords m p s i g) ≤ 16
 unfolding cellRecords
 cells-le m p s i g =
@@ -80,26 +69,22 @@ unfolding build
 wrote-start f o d = wrote-none o d
 
 -- a system: its record, then its satellites'
-system-is : (m : Message) (p : ℕ) (s : System) (ss : List System) → systemRecords m p (s ∷ ss) ≡ (systemRecord m p s ++ build 40 (satelliteRecords m p s)) ++ systemRecords m (p + 1) ss
+system-is : (m : Message) (p : ℕ) (s : System) (ss : List System) → systemRecords m p (s ∷ ss) ≡ recordsOfSystem m p s ++ systemRecords m (p + 1) ss
 unfolding systemRecords
 system-is m p s ss =
     ap (λ (k : ℕ). systemRecord m p s ++ (build 40 (satelliteRecords m p s) ++ systemRecords m k ss)) (sym (add-one p))
     ∙ sym (append-assoc (systemRecord m p s) (build 40 (satelliteRecords m p s)) (systemRecords m (p + 1) ss))
 
-system-one : (m : Message) (p : ℕ) (s : System) → systemRecords m p (s ∷ []) ≡ systemRecord m p s ++ build 40 (satelliteRecords m p s)
-unfolding systemRecords
-system-one m p s = ap (λ (l : List ℕ). systemRecord m p s ++ l) (append-nil (build 40 (satelliteRecords m p s)))
-
 pub system-next : (m : Message) (p : ℕ) (s : System) (ss : List System) → systemRecords m p (s ∷ ss) ≡ systemRecords m p (s ∷ []) ++ systemRecords m (p + 1) ss
-system-next m p s ss = system-is m p s ss ∙ ap (λ (l : List ℕ). l ++ systemRecords m (p + 1) ss) (sym (system-one m p s))
+system-next m p s ss = system-is m p s ss ∙ ap (λ (l : List ℕ). l ++ systemRecords m (p + 1) ss) (sym (one-system m p s))
 
 module _ (m : Message) (p : ℕ) (s : System) (ok : SystemOk s) where
   satellites-le : length (build 40 (satelliteRecords m p s)) ≤ 10880
   satellites-le = build-le 40 272 (satelliteRecords m p s) (satellite-le m p s)
 
   pub system-le : length (systemRecords m p (s ∷ [])) ≤ 10896
-  system-le = omega (arith, ap length (system-one m p s), length-append (systemRecord m p s) (build 40 (satelliteRecords m p s)), length-system m p s ok, satellites-le)
+  system-le = omega (arith, ap length (one-system m p s), length-append (systemRecord m p s) (build 40 (satelliteRecords m p s)), length-system m p s ok, satellites-le)
 
   pub wrote-system : {o o′ : ℕ} {d d′ d″ : List ℕ} → o + 10896 ≤ length d → Wrote (systemRecord m p s) o (o + 16) d d′
       → Wrote (build 40 (satelliteRecords m p s)) (o + 16) o′ d′ d″ → Wrote (systemRecords m p (s ∷ [])) o o′ d d″
-  wrote-system h v w = rw (system-one m p s) (wrote-then (systemRecord m p s) (build 40 (satelliteRecords m p s)) (omega (arith, length-system m p s ok, satellites-le)) v w)
+  wrote-system h v w = rw (one-system m p s) (wrote-then (systemRecord m p s) (build 40 (satelliteRecords m p s)) (omega (arith, length-system m p s ok, satellites-le)) v w)

@@ -12,21 +12,20 @@ mod SubsetParts
 mod Planning
 mod Headers
 mod Messages
-mod Answers
 -- Records
+mod InMask
 mod RowValues
 mod RowFields
 mod SubsetClocks
 mod FixedFields
 mod RecordOctets
 -- The records one behind another
-mod Counting
 mod Masked
 mod Emitting
 mod Turns
-mod InMask
 mod RowsStanding
 mod Systems
 mod Emitted
--- The contract settles everything
+-- The answers, and that the contract settles everything
+pub mod Answers
 pub mod Settled

@@ -14,7 +14,7 @@ use Rattle.mt1.specs.Message.{Header, System, Mask, Orbit, Clocks, Subset, Phas
 use Rattle.mt1.specs.Mt1.{block, iodBits, orbits, clocks, subset, codes, phases, needsMask}
 use Rattle.mt1.specs.Encode.{blockBits, orbitsBits, clocksBits, subsetsBits, codesBits, phasesBits}
 use Rattle.mt1.proofs.Combinators.{Reads, next-elim}
-use Rattle.mt1.proofs.Blocks.{Masked, block-reads, subset-reads}
+use Rattle.mt1.proofs.Blocks.{Masked, block-reads, iod-le, subset-reads}
 use Rattle.reader.specs.declared.field.Step.{Step}
 use Rattle.reader.specs.declared.field.Step.the-variants as step
 use Rattle.reader.specs.declared.mask.MaskPlan.{MaskPlan}
@@ -26,7 +26,6 @@ use Rattle.reader.specs.declared.plan.PlanRead.the-variants as plan-read
 use Rattle.reader.specs.Steps.{Small, stepOf, Stands, subsetsIn, PartsStand, SubsetReads, SubsetReadIf, subsetRefusal, MaskOf, blocks, BlocksRead}
 use Rattle.reader.proofs.Skipping.{step-got, step-ret}
 use Rattle.reader.proofs.SubsetParts.{no-parts}
-use Rattle.reader.proofs.RowsStanding.{iod-le}
 
 -- ---- one that may be missing
 pub step-absent : {A : Type 0} (p : Parser A) (bs : List Bool) (place : ℕ) {flag : Bool} → flag ≡ false → step.At place ≡ stepOf (optional flag p bs place)
@@ -116,7 +115,7 @@ module _ (h : Header) (own : Option Mask) (ss : List System) (bs : List Bool) (p
 
         module _ {xs : Option (Block (List (List ℕ)))} {d : ℕ} (e4 : flagged bs 16 (codes ss) bs c ≡ got xs d) where
           -- the last one, read or refused
-          pub at-phases : blocks h own ss bs place
+          at-phases : blocks h own ss bs place
               ≡ next (flagged bs 17 (phases ss) bs d) (λ ps end. got (record { header = h; mask = own; orbits = os; clocks = cs; subset = sub; codes = xs; phases = ps }) end)
           unfolding blocks _>>=_ ret
           at-phases =

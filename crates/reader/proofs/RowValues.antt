@@ -10,7 +10,7 @@ use mathlib.Core.Path.{_≡_, refl, sym, ap, _∙_}
 use lib.ListN.{length, getD, drop}
 use lib.Seq.{getD-take, getD-drop}
 use lib.Pow.{pow-mono}
-use borrow.Author.Tests.{lt-ltb, le-ltb, ne-eqb}
+use borrow.Author.Tests.{ne-eqb}
 use Rattle.bits.specs.Bits.{bits, value, numberAt}
 use Rattle.bits.proofs.Values.{length-bits}
 use Rattle.bits.proofs.Runs.{number-fits, number-lt, number-of}
@@ -19,9 +19,10 @@ use Rattle.mt1.specs.Encode.{each}
 use Rattle.mt1.specs.Valid.{Row}
 use Rattle.mt1.specs.Records.{at, part, ofSystem, two, widened, signedOr}
 use Rattle.mt1.proofs.Spans.{Span, span-split, span-each}
+use Rattle.mt1.proofs.Elements.{at-is}
 use Rattle.reader.specs.Steps.{Stands}
 use Rattle.reader.specs.Recording.{row, IfSome, Below, onwards}
-use Rattle.reader.proofs.InMask.{at-is, at-every}
+use Rattle.reader.proofs.InMask.{at-every}
 
 -- a value of n bits that stands at a place
 abbrev pub Value : List Bool → ℕ → ℕ → Option ℕ → Type 0
@@ -54,14 +55,6 @@ module _ (bs : List Bool) where
   read-lt place n w e l = rw e (lt-of-lt-of-le (number-lt bs place n) (pow-mono l))
 
 -- ---- signed values
-pub widened-low : (half v : ℕ) → v < half → v ≡ widened half v
-unfolding widened
-widened-low half v h = rw (lt-ltb v half h)
-
-pub widened-high : (half v : ℕ) → half ≤ v → v + (65536 - 2 * half) ≡ widened half v
-unfolding widened
-widened-high half v h = rw (le-ltb v half h)
-
 module _ (half : ℕ) (v : Option ℕ) where
   pub signed-absent : v ≡ none → two 32768 ≡ signedOr half v
   unfolding signedOr

@@ -1,14 +1,13 @@
 -- Where the rows of the system at a place of the mask stand, from where the blocks stand.
 -- A block's rows stand one behind another behind its interval, each as long as its system has satellites or cells.
 use Prim.{tt}
-use Prim.Native.Nat.{ℕ, zero, suc, _+_, _*_, _≤_, _<_, _^_}
+use Prim.Native.Nat.{ℕ, zero, suc, _+_, _*_, _<_, _^_}
 use native.Mathlib.Nat.{add-zero, mul-comm}
 use native.Mathlib.Omega.{arith}
-use mathlib.Core.Bool.{Bool, true, false, cond}
+use mathlib.Core.Bool.{Bool}
 use mathlib.Core.List.{List, [], _∷_, _++_}
 use mathlib.Core.Option.{Option, none, some, Option·some-injective, Option·none-ne-some}
 use mathlib.Core.Path.{_≡_, refl, sym, ap, _∙_}
-use lib.Dec.{eqb}
 use lib.ListN.{length, getD, take}
 use Rattle.bits.specs.Bits.{bits}
 use Rattle.bits.proofs.Values.{length-bits}
@@ -19,19 +18,11 @@ use Rattle.mt1.specs.Valid.{EachOf, Row, OrbitOk, OrbitsOk, ClocksOk, CodesOk, 
 use Rattle.mt1.specs.Records.{at, body, multiplierOf}
 use Rattle.mt1.proofs.Spans.{Span, span-split, span-each, length-each}
 use Rattle.mt1.proofs.Several.{each-of}
+use Rattle.mt1.proofs.Elements.{at-there, at-getD, every-some, each-at}
 use Rattle.reader.specs.Steps.{Stands}
 use Rattle.reader.specs.Recording.{row, IfSome, Below, onwards}
 use Rattle.reader.proofs.RowValues.{further}
 use Rattle.reader.proofs.RowFields.{orbit-width, phase-width}
-use Rattle.reader.proofs.InMask.{at-there, at-getD, every-some}
-
--- ---- widths
-pub iod-le : (id : ℕ) → iodBits id ≤ 10
-iod-le id = go (eqb id 0)
-  where
-    go : (b : Bool) → cond b 8 10 ≤ 10
-    go true = omega arith
-    go false = omega arith
 
 -- ---- places further on
 onwards-zero : (place n : ℕ) → place ≡ 0 → onwards place n ≡ 0
@@ -54,18 +45,17 @@ module _ {A : Type 0} (n k : System → ℕ) (Q : System → A → Type 0) (g : 
 
   row-at : {bs : List Bool} (ss : List System) (rows : List (List A)) (p : ℕ) {s : System} {o end : ℕ}
       → at ss p ≡ some s → EachOf (λ t. Row (n t) (Q t)) ss rows → Span bs o (eachOf (λ t. each (g t)) ss rows) end
-      → Row (n s) (Q s) (getD rows p []) × ((e : ℕ) × Span bs (o + total (λ t. n t * k t) (take p ss)) (each (g s) (getD rows p [])) e)
+      → (e : ℕ) × Span bs (o + total (λ t. n t * k t) (take p ss)) (each (g s) (getD rows p [])) e
   unfolding at eachOf total
   row-at [] rows p {s} e f sp = absurd (Option·none-ne-some s e)
   row-at (t ∷ ss) [] p e f sp = absurd f
   row-at (t ∷ ss) (r ∷ rows) zero {s} {o} e f sp =
-      let i = Option·some-injective t s e in
-      (rw i at (f .0), (o + length (each (g t) r), rw (add-zero o, ← i) (span-split (each (g t) r) _ sp .0)))
+      (o + length (each (g t) r), rw (add-zero o, ← (Option·some-injective t s e)) (span-split (each (g t) r) _ sp .0))
   row-at (t ∷ ss) (r ∷ rows) (suc p) {s} {o} e f sp =
       let x = row-at ss rows p e (f .1) (span-split (each (g t) r) _ sp .1) in
       let m : ℕ = total (λ t. n t * k t) (take p ss) in
       let j : o + length (each (g t) r) + m ≡ o + (n t * k t + m) = omega (arith, long-row t r (f .0)) in
-      (x .0, (x .1 .0, rw (← j) (x .1 .1)))
+      (x .0, rw (← j) (x .1))
 
   module _ (bs : List Bool) (ss : List System) (p : ℕ) {s : System} (here : at ss p ≡ some s) where
     -- behind an interval and what else stands before them
@@ -77,7 +67,7 @@ module _ {A : Type 0} (n k : System → ℕ) (Q : System → A → Type 0) (g : 
         let x = row-at ss rows p here f (span-split pre _ (span-split (bits 4 interval) _ sp .1) .1) in
         let j : place + length (bits 4 interval) + length pre + w ≡ place + (4 + m + w) = omega (arith, length-bits 4 interval, e) in
         let i : place + length (bits 4 interval) + length pre + w ≡ onwards place (4 + m + w) = j ∙ sym (further place (4 + m + w) h) in
-        ((omega (arith, further place (4 + m + w) h), (x .1 .0, rw (← i) (x .1 .1))), x .0)
+        ((omega (arith, further place (4 + m + w) h), (x .0, rw (← i) (x .1))), each-at (λ t. Row (n t) (Q t)) [] ss rows p f here)
 
     block-row : (h : List (List A) → List Bool) → ((rows : List (List A)) → EachOf (λ t. Row (n t) (Q t)) ss rows → eachOf (λ t. each (g t)) ss rows ≡ h rows)
         → (place : ℕ) (b : Option (Block (List (List A)))) → IfSome (BlockOk (EachOf (λ t. Row (n t) (Q t)) ss)) b → Stands bs place (blockBits h) b

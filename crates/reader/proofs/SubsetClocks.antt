@@ -14,10 +14,11 @@ use Rattle.mt1.specs.Message.{Subset, countBefore}
 use Rattle.mt1.specs.Encode.{each}
 use Rattle.mt1.specs.Records.{part, subsetClock}
 use Rattle.mt1.proofs.Spans.{Span, span-split, span-each}
+use Rattle.mt1.proofs.Elements.{at-is}
+use Rattle.mt1.proofs.Counts.{before-lt}
 use Rattle.reader.specs.Steps.{Stands, partBits}
 use Rattle.reader.specs.Recording.{Below, PartOk, SubsetFits, chosenBefore}
-use Rattle.reader.proofs.Counting.{before-lt}
-use Rattle.reader.proofs.InMask.{at-is, at-every}
+use Rattle.reader.proofs.InMask.{at-every}
 use Rattle.reader.proofs.RowValues.{Value, bit-read, first}
 
 pub multiplier-here : (bs : List Bool) (place k : ℕ) (o : Option Subset) → SubsetFits k o → Stands bs place partBits o → Value bs place 2 (part (λ x. x .multiplier) o)

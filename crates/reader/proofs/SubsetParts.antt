@@ -109,21 +109,21 @@ subset-id ss id bs at e =
     next-elim (times (count chosen) (field 13) bs j) _ e2 λ cs k _ e3. cc
 
 module _ (bs : List Bool) (ss : List System) where
-  pub first-part : (at : ℕ) → IdsOk known [] (ids ss) → partOf ss (16 ∷ []) bs at ≡ partOf ss [] bs at
+  first-part : (at : ℕ) → IdsOk known [] (ids ss) → partOf ss (16 ∷ []) bs at ≡ partOf ss [] bs at
   unfolding partOf _>>=_ wrongId
   first-part at d = rw (judged-same 4 (wrongId (ids ss) (16 ∷ [])) (wrongId (ids ss) []) bs at λ v.
       onBool (memb v (ids ss)) (λ m. rw (m, no-id (ids ss) [] v d m)) (λ m. rw m))
 
-  pub parts-bad : (came : List ℕ) (n at : ℕ) {r : RefusalAt} → partOf ss came bs at ≡ bad r → systems (ids ss) (subsetSystem ss) came (suc n) bs at ≡ bad r
+  parts-bad : (came : List ℕ) (n at : ℕ) {r : RefusalAt} → partOf ss came bs at ≡ bad r → systems (ids ss) (subsetSystem ss) came (suc n) bs at ≡ bad r
   unfolding partOf systems _>>=_
   parts-bad came n at e = next-bad (judged 4 (wrongId (ids ss) came) bs at) (λ id k. subsetSystem ss id bs k) _ e
 
-  pub parts-next : (came : List ℕ) (n at : ℕ) {s : Subset} {m : ℕ} → partOf ss came bs at ≡ got s m
+  parts-next : (came : List ℕ) (n at : ℕ) {s : Subset} {m : ℕ} → partOf ss came bs at ≡ got s m
       → systems (ids ss) (subsetSystem ss) came (suc n) bs at ≡ next (systems (ids ss) (subsetSystem ss) (s .id ∷ came) n bs m) (λ xs end. got (s ∷ xs) end)
   unfolding partOf systems _>>=_ ret
   parts-next came n at {s} {m} e = next-elim (judged 4 (wrongId (ids ss) came) bs at) _ e λ id k q r. rw (q, r, subset-id ss id bs k r)
 
-  pub part-id : (came : List ℕ) (at : ℕ) {s : Subset} {m : ℕ} → at ≤ length bs → partOf ss came bs at ≡ got s m → (memb (s .id) (ids ss) ≡ true) × (memb (s .id) came ≡ false)
+  part-id : (came : List ℕ) (at : ℕ) {s : Subset} {m : ℕ} → at ≤ length bs → partOf ss came bs at ≡ got s m → (memb (s .id) (ids ss) ≡ true) × (memb (s .id) came ≡ false)
   unfolding partOf _>>=_
   part-id came at {s} h e = next-elim (judged 4 (wrongId (ids ss) came) bs at) _ e λ id k q r.
       rw (subset-id ss id bs k r) (wrong-none (ids ss) came id (judged-reads 4 (wrongId (ids ss) came) .sound bs at id k h q .ok .1))

@@ -4,7 +4,7 @@ use Prim.{tt}
 use Prim.Native.Nat.{ℕ, _+_, _*_, _^_, _≤_, _<_}
 use native.Mathlib.Nat.{add-zero}
 use native.Mathlib.Omega.{arith}
-use mathlib.Core.Bool.{Bool, true, false}
+use mathlib.Core.Bool.{Bool}
 use mathlib.Core.List.{List, []}
 use mathlib.Core.Option.{Option, none, some}
 use mathlib.Core.Path.{_≡_, refl, sym, ap, ap₂, _∙_}
@@ -17,7 +17,9 @@ use Rattle.mt1.specs.Valid.{SystemOk, IfFlag}
 use Rattle.mt1.specs.Encode.{each, blockBits, orbitBits, orbitsBits, clocksBits, codesBits, phaseBits, phasesBits}
 use Rattle.mt1.specs.Records.{at, body, multiplierOf, ofId, subsetOf}
 use Rattle.mt1.proofs.Masks.{known-small}
-use Rattle.mt1.proofs.Several.{memb-every}
+use Rattle.mt1.proofs.Several.{if-flag, memb-every}
+use Rattle.mt1.proofs.Elements.{every-some, may-come, satellites-of}
+use Rattle.mt1.proofs.Blocks.{iod-le}
 use Rattle.mt1.proofs.Counts.{satellites-few, count-cells}
 use Rattle.reader.specs.declared.mask.SystemPlan.{SystemPlan}
 use Rattle.reader.specs.declared.mask.MaskPlan.{MaskPlan}
@@ -26,14 +28,11 @@ use Rattle.reader.specs.declared.record.Rows.{Rows}
 use Rattle.reader.specs.Steps.{systemPlan, planOf, cellsLength, maskPlan, Stands, bodyBits, partBits, chain, subsetsIn, Planned}
 use Rattle.reader.specs.Recording.{row, IfSome, SystemStands, Near, RowsStand, Emits, onwards, Close, firstRows, secondRows}
 use Rattle.reader.proofs.SystemSteps.{mask-cells}
-use Rattle.reader.proofs.InMask.{every-some, may-come, satellites-of, part-ok, part-of}
-use Rattle.reader.proofs.RowsStanding.{total, total-one, iod-le, orbit-row, code-row, phase-row, clock-row, multiplier-at}
+use Rattle.reader.proofs.InMask.{part-ok, part-of}
+use Rattle.reader.proofs.RowsStanding.{total, total-one, orbit-row, code-row, phase-row, clock-row, multiplier-at}
 
 if-some : {A : Type 0} (b : Bool) (P : A → Type 0) (x : Option A) → IfFlag b P x → IfSome P x
-if-some true P none o = absurd o
-if-some true P (some x) o = o
-if-some false P none o = tt
-if-some false P (some x) o = absurd o
+if-some b P x o = if-flag P (λ _. IfSome P) (λ y p. p) tt b x o
 
 -- ---- the rows of the system at place p
 module _ {lent : Lent} {octets sourced : List ℕ} {m : Message} {ss : List System} {plan : Plan} (planned : Planned lent octets sourced m ss plan) where

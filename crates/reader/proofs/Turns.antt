@@ -12,17 +12,21 @@ use Rattle.lists.specs.Lists.{laid}
 use Rattle.bits.specs.Bits.{num, bitsOf}
 use Rattle.mt1.specs.Message.{System, Subset, Message, count, countBefore, cellBits, cellsOf}
 use Rattle.mt1.specs.Records.{subsetOf, satelliteRecord, cellRecord, build, cellPlace, cellRecords, satelliteRecords}
-use Rattle.mt1.proofs.Counts.{count-all, length-satellite, satellites-few, count-cells}
+use Rattle.mt1.proofs.Counts.{count-all, before-lt, length-satellite, place-in, satellites-few, bits-few, count-cells}
+use Rattle.mt1.proofs.Building.{build-le}
 use Rattle.reader.specs.declared.mask.SystemPlan.{SystemPlan}
 use Rattle.reader.specs.declared.record.Rows.{Rows}
 use Rattle.reader.specs.declared.emit.Cursor.{Cursor}
 use Rattle.reader.specs.declared.emit.CellCursor.{CellCursor}
 use Rattle.reader.specs.Steps.{Stands, partBits}
 use Rattle.reader.specs.Recording.{SystemStands, SubsetFits, chosenBefore, Emits, RowOf, Reached, InRow}
-use Rattle.reader.proofs.Fields.{before-next}
-use Rattle.reader.proofs.Counting.{before-le, before-lt, place-in, place-few}
+use Rattle.reader.proofs.Fields.{before-next, count-few}
 use Rattle.reader.proofs.Masked.{satellite-bit, signal-bit}
-use Rattle.reader.proofs.Emitting.{Wrote, wrote-none, wrote-then, build-le, cells-le}
+use Rattle.reader.proofs.Emitting.{Wrote, wrote-none, wrote-then, cells-le}
+
+before-le : (bs : List Bool) (i : ℕ) → countBefore bs i ≤ i
+unfolding countBefore
+before-le bs i = count-few i bs
 
 -- ---- a signal
 pub row-start : (s : System) (n cell octet : ℕ) → cell ≡ countBefore (cellsOf s) (n * count (s .signals)) → InRow s n 0 (record { signal = 0; cell = cell; octet = octet })
@@ -53,14 +57,14 @@ module _ {octets source : List ℕ} {plan : SystemPlan} {rows : Rows} {m : Messa
     on-signal = sym (signal-told true on)
 
     pub cell-few : n * plan .signals + c .signal < 640
-    cell-few = omega (arith, cell-place, place-few s (emits .mask .ok) i g (of .masked) on-signal)
+    cell-few = omega (arith, cell-place, place-in s i g (of .masked) on-signal, bits-few s (emits .mask .ok))
 
     -- whether it is a cell, as `is_cell` tells
     pub cell-told : (b : Bool)
         → ((t : System) → SystemStands (bitsOf source) t plan → n * plan .signals + c .signal < cellBits (t .satellites) (t .signals) → b ≡ getD (cellsOf t) (n * plan .signals + c .signal) false)
         → b ≡ getD (cellsOf s) (cellPlace s i g) false
     cell-told b tells =
-        tells s (emits .mask) (omega (arith, cell-place, place-in s (emits .mask .ok) i g (of .masked) on-signal))
+        tells s (emits .mask) (omega (arith, cell-place, place-in s i g (of .masked) on-signal))
         ∙ ap (λ (k : ℕ). getD (cellsOf s) k false) cell-place
 
     pub cell-lt : true ≡ getD (cellsOf s) (cellPlace s i g) false → c .cell < count (cellsOf s)

@@ -6,10 +6,9 @@ use native.Mathlib.Omega.{arith}
 use mathlib.Core.Bool.{Bool, true}
 use mathlib.Core.List.{List, [], _++_, append-nil, append-assoc}
 use mathlib.Core.Path.{_≡_, refl, sym, ap, _∙_}
-use lib.ListN.{length, take, drop, length-append}
-use lib.Seq.{length-take-le, take-at}
+use lib.ListN.{length, take, length-append}
 use borrow.Author.Tests.{le-leb}
-use Rattle.lists.specs.Lists.{laid}
+use Rattle.lists.proofs.Laid.{laid-take}
 use Rattle.bits.specs.Bits.{bits, bitsOf, octetsOf, isNumber, putAt}
 use Rattle.bits.proofs.Values.{length-bits}
 use Rattle.bits.proofs.Octets.{length-bitsOf}
@@ -27,13 +26,6 @@ appends-join {a} {at = at} {xs = xs} {ys = ys} p q = record {
   room = q .room ∙ p .room;
 }
 
--- bits laid behind the first `at`
-laid-take : (bs l : List Bool) (at : ℕ) → at ≤ length bs → take (at + length l) (laid bs at l) ≡ take at bs ++ l
-unfolding laid
-laid-take bs l at h =
-    ap (take (at + length l)) (sym (append-assoc (take at bs) l (drop (at + length l) bs)))
-    ∙ take-at (take at bs ++ l) (drop (at + length l) bs) (at + length l) (omega (arith, length-append (take at bs) l, length-take-le at bs h))
-
 -- a number put where there is room
 pub appends-put : (d e : List ℕ) (at n v : ℕ) → n ≤ 64 → at + n ≤ 8 * length d → e ≡ octetsOf (putAt (bitsOf d) at n v) → Appends d at e (at + n) (bits n v)
 appends-put d e at n v h k q = record {
@@ -41,7 +33,7 @@ appends-put d e at n v h k q = record {
   bits =
       ap (λ (m : ℕ). take (at + m) (bitsOf e)) (sym (length-bits n v))
       ∙ ap (take (at + length (bits n v))) (same ∙ put-room (bitsOf d) at n v number)
-      ∙ laid-take (bitsOf d) (bits n v) at (omega (arith, length-bitsOf d));
+      ∙ laid-take (bitsOf d) at (bits n v) (omega (arith, length-bitsOf d));
   room = omega (arith, length-bitsOf e, length-bitsOf d, ap length same, length-put (bitsOf d) at n v);
 }
   where

@@ -5,12 +5,12 @@ use native.Mathlib.Nat.{zero-add}
 use native.Mathlib.Omega.{arith}
 use mathlib.Core.Bool.{Bool, false}
 use mathlib.Core.List.{List, [], _∷_, _++_}
-use mathlib.Core.Path.{_≡_, refl, sym, ap, ap₂, subst, _∙_}
-use lib.ListN.{length, getD, take, drop, length-append, length-take, take-append-drop}
-use lib.Seq.{length-take-le, take-take, take-all, take-append-seam}
+use mathlib.Core.Path.{_≡_, sym, ap, ap₂, subst, _∙_}
+use lib.ListN.{length, getD, take, drop, length-take, take-append-drop}
+use lib.Seq.{length-take-le, take-take, take-all}
 use Rattle.lists.specs.Lists.{laid}
 use Rattle.bits.specs.Bits.{bitsOf, octetsOf}
-use Rattle.bits.proofs.Octets.{length-bitsOf, bitsOf-append, octets-of-bits}
+use Rattle.bits.proofs.Octets.{length-bitsOf, bitsOf-take, octets-of-bits}
 use Rattle.refusal.specs.declared.Refusal.the-variants.{Form, Long}
 use Rattle.writer.specs.declared.writing.WriteAnswer.the-variants.{Size, Refused}
 use Rattle.mt1.specs.Mt1.{Lent}
@@ -18,12 +18,6 @@ use Rattle.writer.specs.Writer.{ReadsTo, turns, SoWritten, Judged}
 use Rattle.writer.specs.Rendering.{Appends, rendered}
 use Rattle.writer.proofs.Filling.{length-turns}
 use Rattle.writer.proofs.Written.{so-written, judged-form, judged-long, judged-size}
-
-bitsOf-take : (s : List ℕ) (n : ℕ) → n ≤ length s → bitsOf (take n s) ≡ take (8 * n) (bitsOf s)
-bitsOf-take s n h =
-    let front : length (bitsOf (take n s)) ≡ 8 * n = length-bitsOf (take n s) ∙ ap (λ (k : ℕ). 8 * k) (length-take-le n s h) in
-    sym (ap (λ (t : List ℕ). take (8 * n) (bitsOf t)) (sym (take-append-drop n s)) ∙ ap (take (8 * n)) (bitsOf-append (take n s) (drop n s))
-    ∙ ap (λ (k : ℕ). take k (bitsOf (take n s) ++ bitsOf (drop n s))) (sym front) ∙ take-append-seam (bitsOf (take n s)) (bitsOf (drop n s)))
 
 front-octets : (x y : List ℕ) → ((i : ℕ) → getD (x ++ y) i 0 < 256) → (i : ℕ) → getD x i 0 < 256
 front-octets [] y h i = omega arith

@@ -1,10 +1,10 @@
 -- What the first and the second system's records give, one behind another, is what each system gives at its place.
 -- A mask has at most two systems, so by cases; what is listed by system is then taken row by row.
-use Prim.Native.Nat.{ℕ, zero, suc, _+_}
+use Prim.Native.Nat.{ℕ, suc, _+_}
 use native.Mathlib.Omega.{arith}
 use mathlib.Core.Bool.{Bool}
 use mathlib.Core.List.{List, [], _∷_, _++_, append-nil}
-use mathlib.Core.Option.{some, Option·some-injective, Option·none-ne-some}
+use mathlib.Core.Option.{some}
 use mathlib.Core.Path.{_≡_, refl, sym, ap, ap₂, _∙_}
 use lib.ListN.{length, getD}
 use Rattle.mt1.specs.Message.{System, Message}
@@ -12,11 +12,12 @@ use Rattle.mt1.specs.Encode.{each, eachOf}
 use Rattle.mt1.specs.Valid.{SystemOk, EachOf}
 use Rattle.mt1.specs.Records.{at, systemRecords}
 use Rattle.mt1.proofs.Several.{each-of}
+use Rattle.mt1.proofs.Elements.{each-at}
 use Rattle.mt1.proofs.Blocks.{Masked}
+use Rattle.mt1.proofs.Counts.{recordsOfSystem, one-system}
 use Rattle.writer.specs.declared.part.Part.{Part}
 use Rattle.writer.specs.Rendering.{gather, gathered, both}
-use Rattle.writer.proofs.Cutting.{first, second, one-system}
-use Rattle.writer.proofs.SatelliteParts.{recordsOfSystem}
+use Rattle.writer.proofs.Cutting.{first, second}
 
 -- ---- the systems, one behind another
 -- of each system, at its place, and together
@@ -48,13 +49,6 @@ over-rows P enc [] (r ∷ rows) o = absurd o
 over-rows P enc (s ∷ ss) [] o = absurd o
 over-rows P enc (s ∷ ss) (r ∷ rows) o = ap (λ (l : List Bool). enc s r ++ l) (over-rows P enc ss rows (o .1))
 
-row-at : {A : Type 0} (P : System → List A → Type 0) (ss : List System) (rows : List (List A)) (p : ℕ) {s : System} → EachOf P ss rows → at ss p ≡ some s → P s (getD rows p [])
-unfolding at
-row-at P [] rows p {s} o e = absurd (Option·none-ne-some s e)
-row-at P (t ∷ ss) [] p o e = absurd o
-row-at P (t ∷ ss) (r ∷ rows) zero {s} o e = rw (← (Option·some-injective t s e)) (o .0)
-row-at P (t ∷ ss) (r ∷ rows) (suc p) o e = row-at P ss rows p (o .1) e
-
 pub systems-each : (f : System → List Bool) (ss : List System) → bitsOver (λ p s. f s) ss ≡ each f ss
 unfolding each
 systems-each f [] = refl
@@ -71,7 +65,7 @@ module _ (m : Message) (ss : List System) (k : Masked ss) where
       → both p (first m ss) (second m ss) ≡ eachOf enc ss rows
   unfolding gathered gather
   both-rows p P enc rows o h =
-      bits-by-system (gathered p) (λ q s. enc s (getD rows q [])) refl (λ q s e ok. h q s ok (row-at P ss rows q o e))
+      bits-by-system (gathered p) (λ q s. enc s (getD rows q [])) refl (λ q s e ok. h q s ok (each-at P [] ss rows q o e))
       ∙ over-rows P enc ss rows o
 
   pub both-same : {A : Type 0} (p : Part) (P : System → List A → Type 0) (enc : List A → List Bool) (rows : List (List A)) → EachOf P ss rows

@@ -18,6 +18,7 @@ use Rattle.mt1.specs.Mt1.{ids, used}
 use Rattle.mt1.specs.Encode.{each, ifThere, maskBits, blockBits, subsetsBits, encode}
 use Rattle.mt1.specs.Valid.{MaskOk, SubsetsOk, BlockOk, IfFlag, Ok}
 use Rattle.mt1.specs.Records.{ofId, part, subsetOf, intervalOf, headerRecord, systemRecord, satelliteRecord, cellRecord, build, cellRecords, satelliteRecords, systemRecords, records}
+use Rattle.mt1.proofs.Several.{if-flag}
 use Rattle.mt1.proofs.Blocks.{Masked}
 use Rattle.writer.specs.Writer.{subsetIds, among}
 
@@ -41,16 +42,12 @@ canonicalMask k = record { systems = k .systems; reserved = 0 }
 abbrev pub canonicalSubset : List System → Block (List Subset) → Block (List Subset)
 canonicalSubset ss b = record { interval = b .interval; body = ordered ss (b .body) }
 
+-- a message with another header, mask and subset
+abbrev pub changed : Message → Header → Option Mask → Option (Block (List Subset)) → Message
+changed m h k sub = record { header = h; mask = k; orbits = m .orbits; clocks = m .clocks; subset = sub; codes = m .codes; phases = m .phases }
+
 abbrev pub canonical : List System → Message → Message
-canonical ss m = record {
-  header = canonicalHeader (m .header);
-  mask = part canonicalMask (m .mask);
-  orbits = m .orbits;
-  clocks = m .clocks;
-  subset = part (canonicalSubset ss) (m .subset);
-  codes = m .codes;
-  phases = m .phases;
-}
+canonical ss m = changed m (canonicalHeader (m .header)) (part canonicalMask (m .mask)) (part (canonicalSubset ss) (m .subset))
 
 -- ---- by cases: the subset is in mask order, or it is two parts in the other order
 memb-one : (i x : ℕ) → memb i (x ∷ []) ≡ true → i ≡ x
@@ -96,10 +93,7 @@ module _ (P : List Subset → List Subset → Type 0) (same : (l : List Subset) 
 
 -- ---- it is valid
 part-ok : {A : Type 0} (P : A → Type 0) (f : A → A) (flag : Bool) (x : Option A) → ((a : A) → P a → P (f a)) → IfFlag flag P x → IfFlag flag P (part f x)
-part-ok P f true none g o = o
-part-ok P f true (some a) g o = g a o
-part-ok P f false none g o = o
-part-ok P f false (some a) g o = o
+part-ok P f flag x g o = if-flag P (λ b y. IfFlag b P (part f y)) g tt flag x o
 
 used-same : (lent : Option Mask) (h : Header) (own : Option Mask) → used lent (canonicalHeader h) (part canonicalMask own) ≡ used lent h own
 unfolding used
@@ -131,9 +125,8 @@ interval-same ss (some b) = refl
 
 subset-same : (ss : List System) → Masked ss → (flag : Bool) (sub : Option (Block (List Subset))) → IfFlag flag (BlockOk (SubsetsOk ss)) sub
     → (id : ℕ) → subsetOf (part (canonicalSubset ss) sub) id ≡ subsetOf sub id
-subset-same ss k flag none o id = refl
-subset-same ss k true (some b) o id = of-ordered ss (b .body) k (o .body) id
-subset-same ss k false (some b) o id = absurd o
+subset-same ss k =
+    if-flag (BlockOk (SubsetsOk ss)) (λ _ x. (id : ℕ) → subsetOf (part (canonicalSubset ss) x) id ≡ subsetOf x id) (λ b o. of-ordered ss (b .body) k (o .body)) (λ id. refl)
 
 module _ (all : List System) (m : Message) (e : (id : ℕ) → subsetOf (part (canonicalSubset all) (m .subset)) id ≡ subsetOf (m .subset) id) where
   header-same : headerRecord (canonical all m) ≡ headerRecord m
@@ -176,9 +169,9 @@ length-subsets = by-order (λ l r. length (subsetsBits r) ≡ length (subsetsBit
 length-subset : (ss : List System) → Masked ss → (flag : Bool) (sub : Option (Block (List Subset))) → IfFlag flag (BlockOk (SubsetsOk ss)) sub
     → length (ifThere (blockBits subsetsBits) (part (canonicalSubset ss) sub)) ≡ length (ifThere (blockBits subsetsBits) sub)
 unfolding blockBits
-length-subset ss k flag none o = refl
-length-subset ss k true (some b) o = simp (length-append, length-bits, length-subsets ss (b .body) k (o .body)) (omega arith)
-length-subset ss k false (some b) o = absurd o
+length-subset ss k =
+    if-flag (BlockOk (SubsetsOk ss)) (λ _ x. length (ifThere (blockBits subsetsBits) (part (canonicalSubset ss) x)) ≡ length (ifThere (blockBits subsetsBits) x))
+    (λ b o. simp (length-append, length-bits, length-subsets ss (b .body) k (o .body)) (omega arith)) refl
 
 -- ---- the order: what is put in mask order has its IDs in that order, and putting it so again changes nothing
 -- an ID is among those of the subset if a part has it
@@ -208,11 +201,12 @@ among-none (i ∷ l) = among-none l
 
 subset-order : (ss : List System) → Masked ss → (flag : Bool) (sub : Option (Block (List Subset))) → IfFlag flag (BlockOk (SubsetsOk ss)) sub
     → subsetIds (part (canonicalSubset ss) sub) ≡ among (ids ss) (subsetIds (part (canonicalSubset ss) sub))
-subset-order ss k flag none o = sym (among-none (ids ss))
-subset-order ss k true (some b) o =
+subset-order ss k =
+    if-flag (BlockOk (SubsetsOk ss)) (λ _ x. subsetIds (part (canonicalSubset ss) x) ≡ among (ids ss) (subsetIds (part (canonicalSubset ss) x)))
+    (λ b o.
     let l = ordered ss (b .body) in
-    ap (map (λ s. s .id)) (sym (ordered-same ss l (b .body) (of-ordered ss (b .body) k (o .body)))) ∙ ids-ordered ss l
-subset-order ss k false (some b) o = absurd o
+    ap (map (λ s. s .id)) (sym (ordered-same ss l (b .body) (of-ordered ss (b .body) k (o .body)))) ∙ ids-ordered ss l)
+    (sym (among-none (ids ss)))
 
 -- ---- the message
 module _ (lent : Option Mask) (ss : List System) (m : Message) (o : Ok lent ss m) (k : Masked ss) where

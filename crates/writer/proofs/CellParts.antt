@@ -1,30 +1,32 @@
 -- What is gathered of a system's cells, its codes, its phases and its cell mask, is what the message has.
 -- Satellite by satellite and signal by signal the listed cells have the numbers 0, 1, .. in turn; a cell that is not listed has a later one, or none, in its place.
-use Prim.Native.Nat.{ℕ, zero, suc, _+_, _*_, _/_, _%_, _^_, _≤_, _<_}
-use native.Mathlib.Nat.{add-zero, zero-add, add-suc, zero-mul, suc-mul}
+use Prim.Native.Nat.{ℕ, zero, suc, _+_, _*_, _/_, _%_, _^_, _<_}
+use native.Mathlib.Nat.{add-zero, zero-add}
 use native.Mathlib.Numerals.{one-add}
 use native.Mathlib.Omega.{arith}
-use mathlib.Core.Bool.{Bool, true, false, _&&_, cond, false≢true}
+use mathlib.Core.Bool.{Bool, true, false, _&&_, cond}
 use mathlib.Core.List.{List, [], _∷_, _++_, append-nil, append-assoc}
 use mathlib.Core.Option.{Option, none, some}
 use mathlib.Core.Path.{_≡_, refl, sym, ap, ap₂, _∙_}
-use lib.Arith.{digits-lt}
+use lib.Dec.{eqb}
 use lib.ListN.{length, getD, take, drop, length-append, length-drop, drop-of-length-le}
-use lib.Seq.{take-all, take-add, drop-cons, take-at, drop-at, drop-append-le}
+use lib.Seq.{take-all, drop-cons, take-at, drop-at, drop-append-le}
 use borrow.Author.Tests.{eq-eqb, ne-eqb}
-use Rattle.lists.proofs.Tests.{onBool}
-use Rattle.bits.specs.Bits.{num, bits, bitsOf, octetsOf}
+use Rattle.lists.proofs.Tests.{onBool, and-left}
+use Rattle.bits.specs.Bits.{bits, bitsOf, octetsOf}
 use Rattle.bits.proofs.Octets.{length-bitsOf, bitsOf-append, bits-of-octets}
 use Rattle.mt1.specs.Message as message-type
 use Rattle.mt1.specs.Message.{System, Block, Message, count, countBefore, cellsOf}
 use Rattle.mt1.specs.Encode.{each, phaseBits}
 use Rattle.mt1.specs.Valid.{SystemOk, Row, PhaseOk}
 use Rattle.mt1.specs.Records.{build, cellPlace, systemRecord, satelliteRecord, cellRecord, cellRecords, satelliteRecords, widened, signedOr, ofSystem}
-use Rattle.mt1.proofs.Counts.{count-next, count-all, length-system, length-satellite, length-cell, length-cellsOf}
+use Rattle.mt1.proofs.Counts.{count-next, count-all, length-system, length-satellite, length-cell, satellite-whole, length-cellsOf, place-in, recordsOfSystem}
+use Rattle.mt1.proofs.Building.{build-holds, build-ext, build-from, from-zero, build-rows, take-rows, picked, build-each}
 use Rattle.writer.specs.declared.part.Part.the-variants.{Code, Phase, Cell}
 use Rattle.writer.specs.Rendering.{isKind, isCell, row, gather, signalsOf, partOf, gathered}
-use Rattle.writer.proofs.Gathering.{Local, Splits, gatherAll, kind-front, all-splits, build-splits, build-whole, all-local, build-local, all-none, all-one, build-ext, build-first, picked, build-each, code-local, phase-local}
-use Rattle.writer.proofs.FieldOctets.{widened-11}
+use Rattle.writer.proofs.RecordFields.{kind-long}
+use Rattle.writer.proofs.Gathering.{Local, Splits, gatherAll, kind-front, all-splits, build-splits, all-none, all-one, code-local, phase-local, cellwise, rowwise, of-system}
+use Rattle.writer.proofs.FieldOctets.{widened-11, two-pair}
 
 -- ---- a row, by what is next
 module _ (bs : List Bool) (g : ℕ) (l : List ℕ) where
@@ -47,18 +49,14 @@ front-splits g (a ∷ b ∷ []) y h e = absurd (let z : ⊥ = omega arith in z)
 front-splits g (a ∷ b ∷ c ∷ []) y h e = absurd (let z : ⊥ = omega arith in z)
 front-splits g (a ∷ b ∷ c ∷ d ∷ x) y h e = refl
 
-cell-long : (g : ℕ) (x : List ℕ) → length x % 16 ≡ 0 → isCell g x ≡ true → 16 ≤ length x
-cell-long g [] h e = absurd (false≢true e)
-cell-long g (a ∷ x) h e = omega arith
-
-pub row-splits : (bs : List Bool) (g : ℕ) (x y : List ℕ) → length x % 16 ≡ 0 → isKind 4 y ≡ false → row bs g (x ++ y) ≡ row bs g x
+row-splits : (bs : List Bool) (g : ℕ) (x y : List ℕ) → length x % 16 ≡ 0 → isKind 4 y ≡ false → row bs g (x ++ y) ≡ row bs g x
 unfolding row
 row-splits [] g x y h e = refl
 row-splits (false ∷ bs) g x y h e = row-splits bs (suc g) x y h e
 row-splits (true ∷ bs) g x y h e =
     onBool (isCell g x)
     (λ q.
-    let l = cell-long g x h q in
+    let l = kind-long 3 x (and-left (isKind 4 x) (eqb (getD x 3 0) g) q) h in
     row-listed bs g (x ++ y) (front-splits g x y h e ∙ q)
     ∙ ap {B = List Bool} (λ (r : List Bool). true ∷ r) (ap (row bs (suc g)) (drop-append-le 16 x y l) ∙ row-splits bs (suc g) (drop 16 x) y (omega (arith, length-drop 16 x)) e)
     ∙ sym (row-listed bs g x q))
@@ -68,24 +66,6 @@ row-splits (true ∷ bs) g x y h e =
     ∙ sym (row-unlisted bs g x q))
 
 -- ---- a satellite's row
--- what is built from a place on, the first of it before the rest
-build-from : {A : Type 0} (g n : ℕ) (f : ℕ → List A) → build (suc n) (λ k. f (g + k)) ≡ f g ++ build n (λ k. f (suc g + k))
-build-from {A} g n f =
-    build-first n (λ k. f (g + k))
-    ∙ ap₂ (λ (a b : List A). a ++ b) (ap f (add-zero g))
-    (build-ext n (λ k. f (g + suc k)) (λ k. f (suc g + k)) (λ k h. let e : g + suc k ≡ suc g + k = omega arith in ap f e))
-
-from-zero : {A : Type 0} (n : ℕ) (f : ℕ → List A) → build n f ≡ build n (λ k. f (0 + k))
-from-zero n f = build-ext n f (λ k. f (0 + k)) (λ k h. ap f (sym (zero-add k)))
-
--- fewer before a place that is 1 than there are
-before-lt : (bs : List Bool) (i : ℕ) → getD bs i false ≡ true → countBefore bs i < count bs
-unfolding countBefore count
-before-lt [] zero e = absurd (false≢true e)
-before-lt [] (suc i) e = absurd (false≢true e)
-before-lt (b ∷ bs) zero e = let f : num b ≡ 1 = ap num e in omega arith
-before-lt (b ∷ bs) (suc i) e = omega (arith, before-lt bs i e)
-
 module _ (m : Message) (p : ℕ) (s : System) (i : ℕ) where
   is-cell : (g n : ℕ) (z : List ℕ) → isCell g (cellRecord m p i g n ++ z) ≡ true
   unfolding cellRecord
@@ -109,10 +89,6 @@ module _ (m : Message) (p : ℕ) (s : System) (i : ℕ) where
         ∙ ap {B = List Bool} (λ (r : List ℕ). true ∷ row bs (suc g) r) (drop-at (cellRecord m p i g n) z 16 (length-cell m p i g n))
     row-next bs g n z false e = row-unlisted bs g z e
 
-    place-in : (g : ℕ) → getD (s .signals) g false ≡ true → cellPlace s i g < length (cellsOf s)
-    unfolding cellPlace
-    place-in g q = omega (arith, length-cellsOf s o, digits-lt (before-lt (s .satellites) i here) (before-lt (s .signals) g q))
-
     row-turn : (g : ℕ) (z : List ℕ) → g < 16 → isCell g z ≡ false
         → row (drop (suc g) (s .signals)) (suc g) z ≡ take (count (drop (suc g) (s .signals))) (drop (cellPlace s i (suc g)) (cellsOf s))
         → row (drop g (s .signals)) g (cellRecords m p s i g ++ z) ≡ take (count (drop g (s .signals))) (drop (cellPlace s i g) (cellsOf s))
@@ -127,7 +103,7 @@ module _ (m : Message) (p : ℕ) (s : System) (i : ℕ) where
         let d : drop g (s .signals) ≡ true ∷ bs = rw q at split in
         let f : cellPlace s i (suc g) ≡ suc x = omega (arith, rw q at next) in
         let c : Bool = getD (cellsOf s) x false in
-        rw (d, q, drop-cons (cellsOf s) x false (place-in g q), one-add (count bs))
+        rw (d, q, drop-cons (cellsOf s) x false (omega (arith, length-cellsOf s o, place-in s i g here q)), one-add (count bs))
         (row-next bs g (countBefore (cellsOf s) x) z c e ∙ ap {B = List Bool} (λ (r : List Bool). c ∷ r) (again ∙ ap (λ (k : ℕ). take (count bs) (drop k (cellsOf s))) f)))
         (λ q.
         let d : drop g (s .signals) ≡ false ∷ bs = rw q at split in
@@ -145,7 +121,7 @@ module _ (m : Message) (p : ℕ) (s : System) (i : ℕ) where
         ∙ ap (row bs g) (append-assoc (cellRecords m p s i g) rest y)
         ∙ row-turn g (rest ++ y) (omega arith) (later g n (suc g) y (omega arith) e) (row-from n (suc g) y (omega arith) e)
 
-    pub row-cells : (y : List ℕ) → isKind 4 y ≡ false
+    row-cells : (y : List ℕ) → isKind 4 y ≡ false
         → row (s .signals) 0 (build 16 (cellRecords m p s i) ++ y) ≡ take (count (s .signals)) (drop (countBefore (s .satellites) i * count (s .signals)) (cellsOf s))
     unfolding cellPlace countBefore
     row-cells y e =
@@ -154,26 +130,6 @@ module _ (m : Message) (p : ℕ) (s : System) (i : ℕ) where
         ∙ ap (λ (k : ℕ). take (count (s .signals)) (drop k (cellsOf s))) (add-zero (countBefore (s .satellites) i * count (s .signals)))
 
 -- ---- cells in order
-module _ {A : Type 0} (f : ℕ → List A) where
-  build-add : (a b : ℕ) → build (a + b) f ≡ build a f ++ build b (λ k. f (a + k))
-  unfolding build
-  build-add a zero = rw add-zero (sym (append-nil (build a f)))
-  build-add a (suc b) = rw add-suc (ap (λ (l : List A). l ++ f (a + b)) (build-add a b) ∙ append-assoc (build a f) (build b (λ k. f (a + k))) (f (a + b)))
-
-  -- rows of w, one behind another
-  build-rows : (n w : ℕ) → build n (λ j. build w (λ k. f (j * w + k))) ≡ build (n * w) f
-  unfolding build
-  build-rows zero w = rw zero-mul
-  build-rows (suc n) w = rw suc-mul (ap (λ (l : List A). l ++ build w (λ k. f (n * w + k))) (build-rows n w) ∙ sym (build-add (n * w) w))
-
--- something at each cell that is listed, in the order of the records
-unfoldable pub cellwise : {A : Type 0} → System → (ℕ → List A) → ℕ → ℕ → List A
-unfolding cellPlace cellsOf countBefore
-cellwise s h i g = cond (getD (s .signals) g false && getD (cellsOf s) (cellPlace s i g) false) (h (countBefore (cellsOf s) (cellPlace s i g))) []
-
-abbrev pub rowwise : {A : Type 0} → System → (ℕ → List A) → ℕ → List A
-rowwise s h i = cond (getD (s .satellites) i false) (build 16 (cellwise s h i)) []
-
 module _ {A : Type 0} (s : System) (o : SystemOk s) (h : ℕ → List A) where
   -- at a place of the cell mask
   abbrev placed : ℕ → List A
@@ -192,67 +148,28 @@ module _ {A : Type 0} (s : System) (o : SystemOk s) (h : ℕ → List A) where
       ∙ picked (s .signals) 16 (λ k. placed (x + k))
       ∙ ap (λ (n : ℕ). build n (λ k. placed (x + k))) (count-all (s .signals) 16 (omega (arith, o .signals)))
 
-  pub cells-in-order : build 40 (rowwise s h) ≡ build (count (cellsOf s)) h
+  cells-in-order : build 40 (rowwise s (λ n. []) h) ≡ build (count (cellsOf s)) h
   cells-in-order =
       let w : ℕ = count (s .signals) in
       let rows : ℕ → List A = λ n. build w (λ k. placed (n * w + k)) in
-      build-ext 40 (rowwise s h) (λ i. cond (getD (s .satellites) i false) (rows (countBefore (s .satellites) i)) [])
+      build-ext 40 (rowwise s (λ n. []) h) (λ i. cond (getD (s .satellites) i false) (rows (countBefore (s .satellites) i)) [])
       (λ i l. ap (λ (r : List A). cond (getD (s .satellites) i false) r []) (row-in-order i))
       ∙ picked (s .satellites) 40 rows
       ∙ ap (λ (n : ℕ). build n rows) (count-all (s .satellites) 40 (omega (arith, o .satellites)))
-      ∙ build-rows placed (count (s .satellites)) w
+      ∙ build-rows (count (s .satellites)) w placed
       ∙ picked (cellsOf s) (count (s .satellites) * w) h
       ∙ ap (λ (n : ℕ). build n h) (count-all (cellsOf s) (count (s .satellites) * w) (omega (arith, length-cellsOf s o)))
 
 -- ---- codes and phases
--- whole records
-cells-whole : (m : Message) (p : ℕ) (s : System) (i g : ℕ) → length (cellRecords m p s i g) % 16 ≡ 0
-unfolding cellRecords
-cells-whole m p s i g = onBool (getD (s .signals) g false && getD (cellsOf s) (cellPlace s i g) false) (λ q. rw (q, length-cell)) (λ q. rw q)
-
-satellites-whole : (m : Message) (p : ℕ) (s : System) (i : ℕ) → length (satelliteRecords m p s i) % 16 ≡ 0
-unfolding satelliteRecords
-satellites-whole m p s i =
-    let n : ℕ = countBefore (s .satellites) i in
-    onBool (getD (s .satellites) i false)
-    (λ q. rw q (omega (arith, length-append (satelliteRecord m p s i n) (build 16 (cellRecords m p s i)), length-satellite m p s i n, build-whole (cellRecords m p s i) (cells-whole m p s i) 16)))
-    (λ q. rw q)
-
--- a part that takes of cells alone, of each by its number
-module _ (m : Message) (p : ℕ) (s : System) (o : SystemOk s) (f : List ℕ → List Bool) (local : Local f) (h : ℕ → List Bool)
-    (system : f (systemRecord m p s) ≡ []) (satellite : (i n : ℕ) → f (satelliteRecord m p s i n) ≡ []) (cell : (i g n : ℕ) → f (cellRecord m p i g n) ≡ h n) where
-  of-cell : (i g : ℕ) → gatherAll f (cellRecords m p s i g) ≡ cellwise s h i g
-  unfolding cellRecords cellwise
-  of-cell i g =
-      let n : ℕ = countBefore (cellsOf s) (cellPlace s i g) in
-      onBool (getD (s .signals) g false && getD (cellsOf s) (cellPlace s i g) false)
-      (λ q. rw q (all-one f (cellRecord m p i g n) (length-cell m p i g n) ∙ cell i g n))
-      (λ q. rw q (all-none f))
-
-  of-satellite : (i : ℕ) → gatherAll f (satelliteRecords m p s i) ≡ rowwise s h i
-  unfolding satelliteRecords
-  of-satellite i =
-      let n : ℕ = countBefore (s .satellites) i in
-      let r : List ℕ = satelliteRecord m p s i n in
-      let row : List ℕ = build 16 (cellRecords m p s i) in
-      onBool (getD (s .satellites) i false)
-      (λ q. rw q (
-      all-local f local r row (omega (arith, length-satellite m p s i n))
-      ∙ ap₂ (λ (a b : List Bool). a ++ b) (all-one f r (length-satellite m p s i n) ∙ satellite i n)
-      (build-local f local (cellRecords m p s i) (cells-whole m p s i) 16 ∙ build-ext 16 _ (cellwise s h i) (λ g l. of-cell i g))))
-      (λ q. rw q (all-none f))
-
-  of-system : gatherAll f (systemRecord m p s ++ build 40 (satelliteRecords m p s)) ≡ build (count (cellsOf s)) h
-  of-system =
-      let r : List ℕ = systemRecord m p s in
-      all-local f local r (build 40 (satelliteRecords m p s)) (omega (arith, length-system m p s o))
-      ∙ ap₂ (λ (a b : List Bool). a ++ b) (all-one f r (length-system m p s o) ∙ system)
-      (build-local f local (satelliteRecords m p s) (satellites-whole m p s) 40 ∙ build-ext 40 _ (rowwise s h) (λ i l. of-satellite i))
-      ∙ cells-in-order s o h
+-- a part that takes h n of the nth cell's record, and nothing of the others
+cells-all : (m : Message) (p : ℕ) (s : System) (o : SystemOk s) (f : List ℕ → List Bool) (local : Local f) (h : ℕ → List Bool)
+    → f (systemRecord m p s) ≡ [] → ((i n : ℕ) → f (satelliteRecord m p s i n) ≡ []) → ((i g n : ℕ) → f (cellRecord m p i g n) ≡ h n)
+    → gatherAll f (recordsOfSystem m p s) ≡ build (count (cellsOf s)) h
+cells-all m p s o f local h system satellite cell = of-system m p s o f local (λ n. []) h system satellite cell ∙ cells-in-order s o h
 
 -- ---- a field of a cell's record
 bits-two : (v : ℕ) → bits 11 (256 * (widened 1024 v / 256) + widened 1024 v % 256) ≡ bits 11 v
-bits-two v = let w = widened 1024 v in let e : 256 * (w / 256) + w % 256 ≡ w = omega arith in ap (bits 11) e ∙ widened-11 v
+bits-two v = ap (bits 11) (two-pair (widened 1024 v) []) ∙ widened-11 v
 
 module _ (m : Message) (p : ℕ) (t : List ℕ) (i g n : ℕ) where
   code-field : (v : ℕ) → ofSystem (m .codes) p n ≡ some v → partOf Code t (cellRecord m p i g n) ≡ bits 11 v
@@ -264,30 +181,26 @@ module _ (m : Message) (p : ℕ) (t : List ℕ) (i g n : ℕ) where
   phase-field none x d e = rw (d, e) (ap (λ (l : List Bool). l ++ bits 2 (x .discontinuity)) (bits-two (x .bias)))
   phase-field (some v) x d e = rw (d, e) (ap (λ (l : List Bool). l ++ bits 2 (x .discontinuity)) (bits-two (x .bias)))
 
--- the records of a system
-abbrev pub ownRecords : Message → ℕ → System → List ℕ
-ownRecords m p s = systemRecord m p s ++ build 40 (satelliteRecords m p s)
-
 module _ (m : Message) (p : ℕ) (s : System) (o : SystemOk s) where
   pub code-part : (b : Block (List (List ℕ))) → m .codes ≡ some b → Row (count (cellsOf s)) (λ v. v < 2 ^ 11) (getD (b .body) p [])
-      → gathered Code (ownRecords m p s) ≡ each (bits 11) (getD (b .body) p [])
+      → gathered Code (recordsOfSystem m p s) ≡ each (bits 11) (getD (b .body) p [])
   unfolding gathered partOf systemRecord satelliteRecord cellRecord ofSystem
   code-part b e r =
-      let own : List ℕ = ownRecords m p s in
+      let own : List ℕ = recordsOfSystem m p s in
       let h : ℕ → List Bool = λ n. partOf Code own (cellRecord m p 0 0 n) in
-      of-system m p s o (partOf Code own) (code-local own) h refl (λ i n. refl) (λ i g n. refl)
+      cells-all m p s o (partOf Code own) (code-local own) h refl (λ i n. refl) (λ i g n. refl)
       ∙ ap (λ (n : ℕ). build n h) (sym (r .0))
-      ∙ build-each (λ v. v < 2 ^ 11) (bits 11) (getD (b .body) p []) h (r .1) (λ n v q _. code-field m p own 0 0 n v (rw e q))
+      ∙ build-each (bits 11) (getD (b .body) p []) h (λ n v q. code-field m p own 0 0 n v (rw e q))
 
   pub phase-part : (b : Block (List (List message-type.Phase))) → m .phases ≡ some b → Row (count (cellsOf s)) PhaseOk (getD (b .body) p [])
-      → gathered Phase (ownRecords m p s) ≡ each phaseBits (getD (b .body) p [])
+      → gathered Phase (recordsOfSystem m p s) ≡ each phaseBits (getD (b .body) p [])
   unfolding gathered partOf systemRecord satelliteRecord cellRecord ofSystem
   phase-part b e r =
-      let own : List ℕ = ownRecords m p s in
+      let own : List ℕ = recordsOfSystem m p s in
       let h : ℕ → List Bool = λ n. partOf Phase own (cellRecord m p 0 0 n) in
-      of-system m p s o (partOf Phase own) (phase-local own) h refl (λ i n. refl) (λ i g n. refl)
+      cells-all m p s o (partOf Phase own) (phase-local own) h refl (λ i n. refl) (λ i g n. refl)
       ∙ ap (λ (n : ℕ). build n h) (sym (r .0))
-      ∙ build-each PhaseOk phaseBits (getD (b .body) p []) h (r .1) (λ n x q _. phase-field m p own 0 0 n (ofSystem (m .codes) p n) x refl (rw e q))
+      ∙ build-each phaseBits (getD (b .body) p []) h (λ n x q. phase-field m p own 0 0 n (ofSystem (m .codes) p n) x refl (rw e q))
 
 -- ---- the cell mask
 -- where a system's masks stand in its record
@@ -312,7 +225,7 @@ signals-are m p s o y =
     ∙ ap (take 16) (drop-at (first ++ s .satellites) (s .signals ++ rest) 96 (omega (arith, length-append first (s .satellites), length-bitsOf (take 7 (systemRecord m p s)), o .satellites)))
     ∙ take-at (s .signals) rest 16 (o .signals)
 
-pub cell-splits : (t : List ℕ) → Splits (partOf Cell t)
+cell-splits : (t : List ℕ) → Splits (partOf Cell t)
 unfolding partOf
 cell-splits t x y l w k =
     rw (kind-front x y l 3, drop-append-le 16 x y l, row-splits (signalsOf t) 0 (drop 16 x) y (omega (arith, length-drop 16 x)) k)
@@ -321,11 +234,6 @@ cell-splits t x y l w k =
 kind-append : (x y : List ℕ) → isKind 4 x ≡ false → isKind 4 y ≡ false → isKind 4 (x ++ y) ≡ false
 kind-append [] y e f = f
 kind-append (a ∷ x) y e f = e
-
-kind-build : (h : ℕ → List ℕ) → ((i : ℕ) → isKind 4 (h i) ≡ false) → (n : ℕ) → isKind 4 (build n h) ≡ false
-unfolding build
-kind-build h e zero = refl
-kind-build h e (suc n) = kind-append (build n h) (h n) (kind-build h e n) (e n)
 
 kind-satellites : (m : Message) (p : ℕ) (s : System) (i : ℕ) → isKind 4 (satelliteRecords m p s i) ≡ false
 unfolding satelliteRecords satelliteRecord
@@ -350,18 +258,12 @@ module _ (m : Message) (p : ℕ) (s : System) (t : List ℕ) where
       (λ q. rw q (all-first (partOf Cell t) (cellRecord m p i g (countBefore (cellsOf s) (cellPlace s i g))) rest (length-cell m p i g _) ∙ none-of-cells i n (suc g)))
       (λ q. rw q (none-of-cells i n (suc g)))
 
--- rows of w, one behind another
-take-rows : {A : Type 0} (w : ℕ) (l : List A) (n : ℕ) → build n (λ j. take w (drop (j * w) l)) ≡ take (n * w) l
-unfolding build
-take-rows w l zero = rw zero-mul
-take-rows {A} w l (suc n) = rw suc-mul (ap (λ (r : List A). r ++ take w (drop (n * w) l)) (take-rows w l n) ∙ sym (take-add (n * w) w l))
-
 module _ (m : Message) (p : ℕ) (s : System) (o : SystemOk s) where
-  mask-row : (i : ℕ) → gatherAll (partOf Cell (ownRecords m p s)) (satelliteRecords m p s i)
+  mask-row : (i : ℕ) → gatherAll (partOf Cell (recordsOfSystem m p s)) (satelliteRecords m p s i)
       ≡ cond (getD (s .satellites) i false) (take (count (s .signals)) (drop (countBefore (s .satellites) i * count (s .signals)) (cellsOf s))) []
   unfolding partOf satelliteRecords satelliteRecord
   mask-row i =
-      let t : List ℕ = ownRecords m p s in
+      let t : List ℕ = recordsOfSystem m p s in
       let n : ℕ = countBefore (s .satellites) i in
       let r : List ℕ = satelliteRecord m p s i n in
       let cs : List ℕ = build 16 (cellRecords m p s i) in
@@ -374,20 +276,20 @@ module _ (m : Message) (p : ℕ) (s : System) (o : SystemOk s) where
       ∙ append-nil _))
       (λ q. rw q (all-none (partOf Cell t)))
 
-  pub cell-part : s .cellFlag ≡ 1 → gathered Cell (ownRecords m p s) ≡ s .cells
+  pub cell-part : s .cellFlag ≡ 1 → gathered Cell (recordsOfSystem m p s) ≡ s .cells
   unfolding gathered partOf systemRecord cellsOf
   cell-part e =
-      let t : List ℕ = ownRecords m p s in
+      let t : List ℕ = recordsOfSystem m p s in
       let f : List ℕ → List Bool = partOf Cell t in
       let r : List ℕ = systemRecord m p s in
       let w : ℕ = count (s .signals) in
       let rows : ℕ → List Bool = λ n. take w (drop (n * w) (cellsOf s)) in
-      all-splits f (cell-splits t) r (build 40 (satelliteRecords m p s)) (omega (arith, length-system m p s o)) (kind-build (satelliteRecords m p s) (kind-satellites m p s) 40)
+      all-splits f (cell-splits t) r (build 40 (satelliteRecords m p s)) (omega (arith, length-system m p s o)) (build-holds (λ (l : List ℕ). isKind 4 l ≡ false) refl kind-append (satelliteRecords m p s) (kind-satellites m p s) 40)
       ∙ ap₂ (λ (a b : List Bool). a ++ b) (all-one f r (length-system m p s o))
-      (build-splits f (cell-splits t) (satelliteRecords m p s) (satellites-whole m p s) (kind-satellites m p s) 40
+      (build-splits f (cell-splits t) (satelliteRecords m p s) (satellite-whole m p s o) (kind-satellites m p s) 40
       ∙ build-ext 40 _ (λ i. cond (getD (s .satellites) i false) (rows (countBefore (s .satellites) i)) []) (λ i l. mask-row i)
       ∙ picked (s .satellites) 40 rows
       ∙ ap (λ (n : ℕ). build n rows) (count-all (s .satellites) 40 (omega (arith, o .satellites)))
-      ∙ take-rows w (cellsOf s) (count (s .satellites))
+      ∙ take-rows (count (s .satellites)) w (cellsOf s)
       ∙ take-all (count (s .satellites) * w) (cellsOf s) (omega (arith, length-cellsOf s o)))
       ∙ rw e

@@ -5,7 +5,7 @@ use native.Mathlib.Omega.{arith}
 use mathlib.Core.Bool.{true, false, _&&_}
 use mathlib.Core.List.{List}
 use mathlib.Core.Option.{none, some}
-use mathlib.Core.Path.{_≡_, refl, sym, ap, subst, _∙_}
+use mathlib.Core.Path.{_≡_, refl, sym, ap, _∙_}
 use lib.Dec.{eqb, ltb}
 use lib.ListN.{length}
 use borrow.Author.Tests.{eq-eqb, ne-eqb, ltb-true, eqb-true}
@@ -24,14 +24,14 @@ module _ (l : List ℕ) (e : (areRecords (length l) && isHeader l) ≡ true) whe
   are-records : areRecords (length l) ≡ true
   are-records = and-left (areRecords (length l)) (isHeader l) e
 
+  list-whole : length l % 16 ≡ 0
+  list-whole = eqb-true (length l % 16) 0 (and-right (ltb 0 (length l)) (eqb (length l % 16) 0) are-records)
+
   pub list-long : 16 ≤ length l
   list-long = omega (arith, ltb-true 0 (length l) (and-left (ltb 0 (length l)) (eqb (length l % 16) 0) are-records), list-whole)
-    where
-      list-whole : length l % 16 ≡ 0
-      list-whole = eqb-true (length l % 16) 0 (and-right (ltb 0 (length l)) (eqb (length l % 16) 0) are-records)
 
   pub list-records : length l ≤ 21808 → Whole l
-  list-records h = record { few = h; whole = eqb-true (length l % 16) 0 (and-right (ltb 0 (length l)) (eqb (length l % 16) 0) are-records) }
+  list-records h = record { few = h; whole = list-whole }
 
 -- ---- what the checks refuse
 module _ (c : Call) where

@@ -1,51 +1,32 @@
 -- The clock blocks, subset and full, are rendered as their bits.
 -- A system's record tells its multipliers, and so whether it is in the subset; GNSS IDs differ, so the part that is found by an ID is the system's own.
-use Prim.Native.Nat.{ℕ, zero, suc, _+_, _^_, _<_}
+use Prim.Native.Nat.{ℕ, _+_, _^_, _<_}
 use native.Mathlib.Nat.{add-zero}
 use native.Mathlib.Omega.{arith}
 use mathlib.Core.Bool.{Bool, true, false}
 use mathlib.Core.List.{List, [], _∷_, _++_, append-assoc}
-use mathlib.Core.Option.{Option, none, some, Option·some-injective, Option·none-ne-some}
+use mathlib.Core.Option.{Option, none, some}
 use mathlib.Core.Path.{_≡_, refl, sym, ap, ap₂, _∙_}
 use lib.Dec.{eqb}
 use lib.ListN.{length, getD}
-use borrow.Author.Tests.{eqb-true, eq-eqb, ne-eqb}
-use Rattle.lists.specs.Lists.{Every, memb}
-use Rattle.lists.proofs.Tests.{onBool, clash}
+use borrow.Author.Tests.{ne-eqb}
 use Rattle.bits.specs.Bits.{num, bits}
 use Rattle.mt1.specs.Message.{System, Clocks, Subset, Block, Message, count}
-use Rattle.mt1.specs.Mt1.{satellitesOf}
+use Rattle.mt1.specs.Mt1.{known, satellitesOf}
 use Rattle.mt1.specs.Encode.{each, ifThere, clocksBits, subsetBits, subsetsBits}
 use Rattle.mt1.specs.Valid.{SystemOk, Row, ClocksOk, SubsetOk, SubsetsOk}
 use Rattle.mt1.specs.Records.{part, at, octetOr, multiplierOf, ofId, subsetOf, systemRecord}
+use Rattle.mt1.proofs.Elements.{satellites-of, part-found}
 use Rattle.mt1.proofs.Blocks.{Masked}
+use Rattle.mt1.proofs.Counts.{recordsOfSystem}
 use Rattle.writer.specs.declared.part.Part.the-variants as the-part
 use Rattle.writer.specs.Rendering.{isKind, gathered, multiplierPart, inSubset, subsetPart, both, clocksPart, subsetsPart}
 use Rattle.writer.proofs.Canonical.{orNone, ordered}
 use Rattle.writer.proofs.Cutting.{first, second}
-use Rattle.writer.proofs.SatelliteParts.{recordsOfSystem, clock-part, chosen-part, subset-clock-part}
+use Rattle.writer.proofs.SatelliteParts.{clock-part, chosen-part, subset-clock-part}
 use Rattle.writer.proofs.BySystem.{by-system, bitsOver, total, bits-by-system, both-same}
 
 -- ---- the clock subset
-found : (P : Subset → Type 0) (subs : List Subset) (id : ℕ) (x : Subset) → Every P subs → ofId subs id ≡ some x → (x .id ≡ id) × P x
-unfolding ofId
-found P [] id x o = λ e. absurd (Option·none-ne-some x e)
-found P (y ∷ subs) id x o = onBool (eqb id (y .id))
-    (λ t. rw t λ e. rw (← (Option·some-injective y x e)) (sym (eqb-true id (y .id) t), o .0))
-    (λ t. rw t λ e. found P subs id x (o .1) e)
-
-satellites-at : (ss : List System) (p : ℕ) {s : System} → Masked ss → at ss p ≡ some s → satellitesOf ss (s .id) ≡ s .satellites
-unfolding at satellitesOf
-satellites-at [] p {s} k e = absurd (Option·none-ne-some s e)
-satellites-at (t ∷ ss) zero {s} k e = rw (Option·some-injective t s e, eq-eqb (s .id) (s .id) refl)
-satellites-at (t ∷ []) (suc p) {s} k e = absurd (Option·none-ne-some s e)
-satellites-at (t ∷ u ∷ []) (suc zero) {s} k e =
-    let f : u ≡ s = Option·some-injective u s e in
-    let g : eqb (s .id) (t .id) ≡ false = onBool (eqb (s .id) (t .id)) (λ h. clash (ap (λ (v : System). memb (v .id) (t .id ∷ [])) f ∙ rw h) (k .ids .2 .1)) (λ h. h) in
-    rw (g, f, eq-eqb (s .id) (s .id) refl)
-satellites-at (t ∷ u ∷ []) (suc (suc p)) {s} k e = absurd (Option·none-ne-some s e)
-satellites-at (t ∷ u ∷ v ∷ ss) (suc p) k e = absurd (let z : ⊥ = omega (arith, k .few) in z)
-
 -- one or none
 abbrev there : Option Subset → ℕ
 there none = 0
@@ -97,8 +78,8 @@ module _ (m : Message) (ss : List System) (k : Masked ss) (b : Block (List Subse
       go : (r : Option Subset) → ofId (b .body) (s .id) ≡ r → (num (inSubset l) ≡ there r) × (subsetPart l ≡ ifThere subsetBits r)
       go none f = let (x, y) = out-part l refl (ap (λ (v : ℕ). eqb v 255) (octet none f)) in (ap num x, y)
       go (some x) f =
-          let (i, w) = found (SubsetOk ss) (b .body) (s .id) x (o .each) f in
-          let n : length (x .chosen) ≡ count (s .satellites) = w .chosen ∙ ap (λ (j : ℕ). count (satellitesOf ss j)) i ∙ ap count (satellites-at ss p k e) in
+          let (i, w) = part-found (SubsetOk ss) (b .body) (s .id) x (o .each) f in
+          let n : length (x .chosen) ≡ count (s .satellites) = w .chosen ∙ ap (λ (j : ℕ). count (satellitesOf ss j)) i ∙ ap count (satellites-of known [] ss p e (k .ids)) in
           let (u, v) = in-part l refl (ne-eqb (getD l 6 0) 255 (λ h. let z : ⊥ = omega (arith, octet (some x) f, w .multiplier, h) in z)) in (
             ap num u,
             v ∙ ap₂ (λ (j y : ℕ). bits 4 j ++ (bits 2 y ++ (gathered the-part.Chosen l ++ gathered the-part.SubsetClock l))) (sym i) (octet (some x) f)

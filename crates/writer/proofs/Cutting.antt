@@ -1,23 +1,25 @@
 -- Where a list of records is cut: the records of its first and of its second system.
 -- A system's own record is of kind 2, its satellites' are of kind 3 and its cells' of kind 4, so the next of kind 2 is the second system's.
-use Prim.Native.Nat.{ℕ, zero, suc, _+_, _*_, _-_, _/_}
+use Prim.Native.Nat.{ℕ, _+_, _*_, _-_, _/_}
 use native.Mathlib.Nat.{add-zero, zero-add}
 use native.Mathlib.Numerals.{add-one}
 use native.Mathlib.Omega.{arith}
-use mathlib.Core.Bool.{Bool, true, false, _&&_, cond}
-use mathlib.Core.List.{List, [], _∷_, _++_, append-nil, append-assoc}
+use mathlib.Core.Bool.{false, _&&_}
+use mathlib.Core.List.{List, [], _∷_, _++_, append-assoc}
 use mathlib.Core.Path.{_≡_, refl, sym, ap, ap₂, _∙_}
 use lib.ListN.{length, getD, take, drop, length-append}
 use lib.Seq.{drop-at, drop-drop, take-append-seam, drop-append-seam}
 use borrow.Author.Tests.{ne-eqb}
 use Rattle.lists.specs.Lists.{Every}
+use Rattle.lists.proofs.Tests.{cond-holds}
 use Rattle.mt1.specs.Message.{System, Message, countBefore, cellsOf}
 use Rattle.mt1.specs.Valid.{SystemOk}
 use Rattle.mt1.specs.Records.{headerRecord, systemRecord, satelliteRecord, cellRecord, build, cellPlace, cellRecords, satelliteRecords, systemRecords, records}
-use Rattle.mt1.proofs.Counts.{length-header, length-system, length-satellite, length-cell}
+use Rattle.mt1.proofs.Counts.{length-header, length-system, length-satellite, length-cell, recordsOfSystem}
+use Rattle.mt1.proofs.Building.{build-holds}
 use Rattle.writer.specs.Rendering.{isKind, renderedOf, untilSystem, secondAt, rendered}
+use Rattle.writer.proofs.SecondSystem.{until-stop, until-go}
 use Rattle.writer.proofs.Gathering.{kind-front}
-use Rattle.writer.proofs.SatelliteParts.{recordsOfSystem}
 
 -- ---- records that are no system's
 record Passed (l : List ℕ) : Type 0 where
@@ -38,21 +40,16 @@ passed-join {a} {b} p q = record {
 }
 
 passed-record : (r : List ℕ) → length r ≡ 16 → isKind 2 r ≡ false → Passed r
-unfolding untilSystem
 passed-record r e f = record {
   n = 1;
   size = e;
-  passes = λ k rest. rw (add-one k, kind-front r rest (omega (arith, e)) 2 ∙ f, drop-at r rest 16 e);
+  passes = λ k rest.
+      ap (λ (j : ℕ). untilSystem j (r ++ rest)) (add-one k) ∙ until-go k (r ++ rest) (kind-front r rest (omega (arith, e)) 2 ∙ f)
+      ∙ ap (λ (l : List ℕ). 16 + untilSystem k l) (drop-at r rest 16 e);
 }
 
-passed-if : (b : Bool) {l : List ℕ} → Passed l → Passed (cond b l [])
-passed-if true p = p
-passed-if false p = passed-none
-
 passed-build : (f : ℕ → List ℕ) → ((i : ℕ) → Passed (f i)) → (n : ℕ) → Passed (build n f)
-unfolding build
-passed-build f p zero = passed-none
-passed-build f p (suc n) = passed-join (passed-build f p n) (p n)
+passed-build = build-holds Passed passed-none (λ a b p q. passed-join p q)
 
 module _ (m : Message) (p : ℕ) (s : System) where
   passed-satellite : (i n : ℕ) → Passed (satelliteRecord m p s i n)
@@ -65,25 +62,22 @@ module _ (m : Message) (p : ℕ) (s : System) where
 
   passed-cells : (i g : ℕ) → Passed (cellRecords m p s i g)
   unfolding cellRecords
-  passed-cells i g = passed-if (getD (s .signals) g false && getD (cellsOf s) (cellPlace s i g) false) (passed-cell i g (countBefore (cellsOf s) (cellPlace s i g)))
+  passed-cells i g =
+      cond-holds Passed (getD (s .signals) g false && getD (cellsOf s) (cellPlace s i g) false) (passed-cell i g (countBefore (cellsOf s) (cellPlace s i g))) passed-none
 
   passed-row : (i : ℕ) → Passed (satelliteRecords m p s i)
   unfolding satelliteRecords
-  passed-row i = passed-if (getD (s .satellites) i false) (passed-join (passed-satellite i (countBefore (s .satellites) i)) (passed-build (cellRecords m p s i) (passed-cells i) 16))
+  passed-row i =
+      cond-holds Passed (getD (s .satellites) i false) (passed-join (passed-satellite i (countBefore (s .satellites) i)) (passed-build (cellRecords m p s i) (passed-cells i) 16)) passed-none
 
   passed-satellites : Passed (build 40 (satelliteRecords m p s))
   passed-satellites = passed-build (satelliteRecords m p s) passed-row 40
 
 -- and one that is
-stops : (k : ℕ) (l : List ℕ) → isKind 2 l ≡ true → untilSystem k l ≡ 0
-unfolding untilSystem
-stops zero l e = refl
-stops (suc k) l e = rw e
-
 stops-systems : (m : Message) (p : ℕ) (ss : List System) → untilSystem (length (systemRecords m p ss) / 16) (systemRecords m p ss) ≡ 0
 unfolding systemRecords systemRecord untilSystem
 stops-systems m p [] = refl
-stops-systems m p (s ∷ ss) = stops (length (systemRecords m p (s ∷ ss)) / 16) (systemRecords m p (s ∷ ss)) refl
+stops-systems m p (s ∷ ss) = until-stop (length (systemRecords m p (s ∷ ss)) / 16) (systemRecords m p (s ∷ ss)) refl
 
 -- ---- the records of the first system, and of the second
 abbrev pub first : Message → List System → List ℕ
@@ -93,10 +87,6 @@ first m (s ∷ ss) = recordsOfSystem m 0 s
 abbrev pub second : Message → List System → List ℕ
 second m [] = []
 second m (s ∷ ss) = systemRecords m 1 ss
-
-pub one-system : (m : Message) (p : ℕ) (s : System) → systemRecords m p (s ∷ []) ≡ recordsOfSystem m p s
-unfolding systemRecords
-one-system m p s = ap (λ (l : List ℕ). systemRecord m p s ++ l) (append-nil (build 40 (satelliteRecords m p s)))
 
 module _ (m : Message) (s : System) (ss : List System) (o : SystemOk s) where
   abbrev own : List ℕ

@@ -1,38 +1,22 @@
 -- A field's value in two octets of a record: the number they are, and that its low bits are the field's.
 -- Two octets are one number and its bits above the field do not count; each value takes two octets, there or absent.
-use Prim.Native.Nat.{ℕ, suc, _+_, _*_, _/_, _%_, _-_, _^_, _<_}
+use Prim.Native.Nat.{ℕ, suc, _+_, _*_, _-_, _^_, _<_}
 use native.Mathlib.Nat.{suc-add}
-use native.Mathlib.Decide.{decLt}
 use native.Mathlib.Omega.{arith}
 use mathlib.Core.Bool.{false}
 use mathlib.Core.List.{List, _++_}
 use mathlib.Core.Option.{Option, none, some}
-use mathlib.Core.Path.{_≡_, refl, sym, ap, _∙_}
+use mathlib.Core.Path.{_≡_, refl}
 use lib.Dec.{eqb}
-use lib.ListN.{getD}
-use borrow.Author.Tests.{lt-ltb, le-ltb, ne-eqb}
-use Rattle.bits.specs.Bits.{bits, value}
-use Rattle.bits.proofs.Values.{length-bits, value-bits, bits-value}
-use Rattle.mt1.specs.Records.{widened, iodOr, signedOr}
+use borrow.Author.Tests.{ne-eqb}
+use Rattle.bits.specs.Bits.{bits}
+use Rattle.bits.proofs.Values.{bits-low}
+use Rattle.mt1.specs.Records.{two, widened, iodOr, signedOr}
+use Rattle.mt1.proofs.Signs.{widened-cases}
 use Rattle.writer.specs.Writer.{pair}
 
 -- ---- bits
--- only the low n bits count
-pub bits-low : (n v w : ℕ) → v % 2 ^ n ≡ w % 2 ^ n → bits n v ≡ bits n w
-bits-low n v w e = sym (again v) ∙ ap (bits n) (value-bits n v ∙ e ∙ sym (value-bits n w)) ∙ again w
-  where
-    again : (x : ℕ) → bits n (value (bits n x)) ≡ bits n x
-    again x = ap (λ (k : ℕ). bits k (value (bits n x))) (sym (length-bits n x)) ∙ bits-value (bits n x)
-
 -- a value is widened by a multiple of 2 ^ n
-pub widened-cases : (P : ℕ → Type 0) (half v : ℕ) → (v < half → P v) → ((v < half → ⊥) → P (v + (65536 - 2 * half))) → P (widened half v)
-unfolding widened
-widened-cases P half v f g = go (decLt v half)
-  where
-    go : Dec (v < half) → P (widened half v)
-    go (yes h) = rw (lt-ltb v half h) (f h)
-    go (no h) = rw (le-ltb v half (omega arith)) (g h)
-
 pub widened-13 : (v : ℕ) → bits 13 (widened 4096 v) ≡ bits 13 v
 widened-13 v = widened-cases (λ w. bits 13 w ≡ bits 13 v) 4096 v (λ h. refl) (λ h. bits-low 13 (v + (65536 - 2 * 4096)) v (omega arith))
 
@@ -54,20 +38,15 @@ abbrev pub wordOf : ℕ → Option ℕ → ℕ
 wordOf half none = 32768
 wordOf half (some v) = widened half v
 
-pub iod-front : (v : ℕ) (l : List ℕ) → pair (iodOr (some v) ++ l) 0 ≡ v
-iod-front v l = omega arith
+pub two-pair : (v : ℕ) (l : List ℕ) → pair (two v ++ l) 0 ≡ v
+two-pair v l = omega arith
 
 pub signed-front : (half : ℕ) (v : Option ℕ) (l : List ℕ) → pair (signedOr half v ++ l) 0 ≡ wordOf half v
 unfolding signedOr
 signed-front half none l = refl
-signed-front half (some v) l = let w = widened half v in let e : 256 * (w / 256) + w % 256 ≡ w = omega arith in e
+signed-front half (some v) l = two-pair (widened half v) l
 
 -- what stands behind
-pub signed-past : (half : ℕ) (v : Option ℕ) (l : List ℕ) (k : ℕ) → getD (signedOr half v ++ l) (suc (suc k)) 0 ≡ getD l k 0
-unfolding signedOr
-signed-past half none l k = refl
-signed-past half (some v) l k = refl
-
 pub iod-pair : (v : Option ℕ) (l : List ℕ) (k : ℕ) → pair (iodOr v ++ l) (suc (suc k)) ≡ pair l k
 iod-pair none l k = simp suc-add
 iod-pair (some v) l k = simp suc-add

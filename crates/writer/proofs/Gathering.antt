@@ -1,21 +1,20 @@
--- What is gathered of records one behind another is what is gathered of each; what is built of the places that a mask marks is built of as many as there are.
--- By induction on the records, and on the places: what is taken of a record stands in its own octets, or in those of the cells behind it.
+-- What is gathered of records one behind another is what is gathered of each, and so of a system's records by satellite and cell.
+-- By induction on the records: what is taken of a record stands in its own octets, or in those of the cells behind it.
 use Prim.Native.Nat.{ℕ, zero, suc, _+_, _*_, _/_, _%_, _≤_, _<_}
 use native.Mathlib.Nat.{zero-add, suc-add}
 use native.Mathlib.Omega.{arith}
-use mathlib.Core.Bool.{Bool, false, cond}
+use mathlib.Core.Bool.{Bool, false, _&&_, cond}
 use mathlib.Core.List.{List, [], _∷_, _++_, append-assoc, append-nil}
-use mathlib.Core.Option.{some}
 use mathlib.Core.Path.{_≡_, refl, sym, ap, ap₂, _∙_}
 use lib.Dec.{eqb}
 use lib.ListN.{length, getD, drop, length-append, length-drop, List·getD-append}
 use lib.Seq.{drop-append-le}
-use Rattle.lists.specs.Lists.{Every}
 use Rattle.lists.proofs.Tests.{onBool}
-use Rattle.mt1.specs.Message.{countBefore}
-use Rattle.mt1.specs.Encode.{each}
-use Rattle.mt1.specs.Records.{at, build}
-use Rattle.mt1.proofs.Counts.{count-next}
+use Rattle.mt1.specs.Message.{System, Message, countBefore, cellsOf}
+use Rattle.mt1.specs.Valid.{SystemOk}
+use Rattle.mt1.specs.Records.{systemRecord, satelliteRecord, cellRecord, build, cellPlace, cellRecords, satelliteRecords}
+use Rattle.mt1.proofs.Counts.{length-system, length-satellite, length-cell, cell-whole, satellite-whole, recordsOfSystem}
+use Rattle.mt1.proofs.Building.{build-holds, build-ext}
 use Rattle.writer.specs.declared.part.Part.the-variants.{Orbit, Clock, Chosen, SubsetClock, Code, Phase}
 use Rattle.writer.specs.Writer.{pair}
 use Rattle.writer.specs.Rendering.{isKind, gather, partOf}
@@ -32,9 +31,6 @@ Local f = (x y : List ℕ) → 16 ≤ length x → f (x ++ y) ≡ f x
 -- f sees only the first record and the cells behind it, of whole records
 abbrev pub Splits : (List ℕ → List Bool) → Type 0
 Splits f = (x y : List ℕ) → 16 ≤ length x → length x % 16 ≡ 0 → isKind 4 y ≡ false → f (x ++ y) ≡ f x
-
-pub local-splits : (f : List ℕ → List Bool) → Local f → Splits f
-local-splits f h x y l w k = h x y l
 
 -- f sees nothing of y behind whole records
 abbrev Blind : (List ℕ → List Bool) → List ℕ → Type 0
@@ -56,10 +52,8 @@ module _ (f : List ℕ → List Bool) (y : List ℕ) (blind : Blind f y) where
       let e : length (x ++ y) / 16 ≡ length x / 16 + length y / 16 = omega (arith, length-append x y) in
       ap (λ (n : ℕ). gather n f (x ++ y)) e ∙ gather-blind (length x / 16) (length y / 16) x (omega arith)
 
-pub build-whole : (h : ℕ → List ℕ) → ((i : ℕ) → length (h i) % 16 ≡ 0) → (n : ℕ) → length (build n h) % 16 ≡ 0
-unfolding build
-build-whole h w zero = refl
-build-whole h w (suc n) = omega (arith, length-append (build n h) (h n), build-whole h w n, w n)
+build-whole : (h : ℕ → List ℕ) → ((i : ℕ) → length (h i) % 16 ≡ 0) → (n : ℕ) → length (build n h) % 16 ≡ 0
+build-whole = build-holds (λ (l : List ℕ). length l % 16 ≡ 0) refl (λ a b v w. omega (arith, length-append a b, v, w))
 
 module _ (f : List ℕ → List Bool) (h : ℕ → List ℕ) (whole : (i : ℕ) → length (h i) % 16 ≡ 0) (blind : (i : ℕ) → Blind f (h i)) where
   build-blind : (n : ℕ) → gatherAll f (build n h) ≡ build n (λ i. gatherAll f (h i))
@@ -67,13 +61,13 @@ module _ (f : List ℕ → List Bool) (h : ℕ → List ℕ) (whole : (i : ℕ) 
   build-blind zero = refl
   build-blind (suc n) = all-blind f (h n) (blind n) (build n h) (build-whole h whole n) ∙ ap (λ (r : List Bool). r ++ gatherAll f (h n)) (build-blind n)
 
-pub all-local : (f : List ℕ → List Bool) → Local f → (x y : List ℕ) → length x % 16 ≡ 0 → gatherAll f (x ++ y) ≡ gatherAll f x ++ gatherAll f y
+all-local : (f : List ℕ → List Bool) → Local f → (x y : List ℕ) → length x % 16 ≡ 0 → gatherAll f (x ++ y) ≡ gatherAll f x ++ gatherAll f y
 all-local f l x y = all-blind f y (λ z a w. l z y a) x
 
 pub all-splits : (f : List ℕ → List Bool) → Splits f → (x y : List ℕ) → length x % 16 ≡ 0 → isKind 4 y ≡ false → gatherAll f (x ++ y) ≡ gatherAll f x ++ gatherAll f y
 all-splits f s x y w k = all-blind f y (λ z a v. s z y a v k) x w
 
-pub build-local : (f : List ℕ → List Bool) → Local f → (h : ℕ → List ℕ) → ((i : ℕ) → length (h i) % 16 ≡ 0)
+build-local : (f : List ℕ → List Bool) → Local f → (h : ℕ → List ℕ) → ((i : ℕ) → length (h i) % 16 ≡ 0)
     → (n : ℕ) → gatherAll f (build n h) ≡ build n (λ i. gatherAll f (h i))
 build-local f l h w = build-blind f h w (λ i z a v. l z (h i) a)
 
@@ -89,48 +83,12 @@ pub all-one : (f : List ℕ → List Bool) (r : List ℕ) → length r ≡ 16 �
 unfolding gather
 all-one f r e = ap (λ (n : ℕ). gather (n / 16) f r) e ∙ append-nil (f r)
 
--- ---- what is built
-module _ {A : Type 0} where
-  pub build-ext : (n : ℕ) (f g : ℕ → List A) → ((i : ℕ) → i < n → f i ≡ g i) → build n f ≡ build n g
-  unfolding build
-  build-ext zero f g h = refl
-  build-ext (suc n) f g h = ap₂ (λ (a b : List A). a ++ b) (build-ext n f g (λ i l. h i (omega arith))) (h n (omega arith))
-
-  pub build-empty : (n : ℕ) → _≡_ {A = List A} (build n (λ i. [])) []
-  unfolding build
-  build-empty zero = refl
-  build-empty (suc n) = rw (build-empty n)
-
-  pub build-first : (n : ℕ) (f : ℕ → List A) → build (suc n) f ≡ f 0 ++ build n (λ i. f (suc i))
-  unfolding build
-  build-first zero f = sym (append-nil (f 0))
-  build-first (suc n) f = ap (λ (r : List A). r ++ f (suc n)) (build-first n f) ∙ append-assoc (f 0) (build n (λ i. f (suc i))) (f (suc n))
-
-  -- at each place that is marked, the next
-  pub picked : (bs : List Bool) (n : ℕ) (f : ℕ → List A) → build n (λ i. cond (getD bs i false) (f (countBefore bs i)) []) ≡ build (countBefore bs n) f
-  unfolding build countBefore
-  picked bs zero f = refl
-  picked bs (suc n) f =
-      let e = count-next bs n in
-      let p = picked bs n f in
-      onBool (getD bs n false)
-      (λ q. let d : countBefore bs (suc n) ≡ suc (countBefore bs n) = omega (arith, rw q at e) in rw (q, d) (ap (λ (r : List A). r ++ f (countBefore bs n)) p))
-      (λ q. let d : countBefore bs (suc n) ≡ countBefore bs n = omega (arith, rw q at e) in rw (q, d) (append-nil _ ∙ p))
-
--- of each of a list, of all of which something holds
-pub build-each : {A : Type 0} (P : A → Type 0) (f : A → List Bool) (xs : List A) (g : ℕ → List Bool) → Every P xs
-    → ((i : ℕ) (x : A) → at xs i ≡ some x → P x → g i ≡ f x) → build (length xs) g ≡ each f xs
-unfolding each at build
-build-each P f [] g o h = refl
-build-each P f (x ∷ xs) g (o, os) h =
-    build-first (length xs) g ∙ ap₂ (λ (a b : List Bool). a ++ b) (h 0 x refl o) (build-each P f xs (λ i. g (suc i)) os (λ i y e. h (suc i) y e))
-
 -- ---- parts that see only the record: all but the cell mask
 module _ (x y : List ℕ) (here : 16 ≤ length x) where
-  pub octet-front : (i : ℕ) → i < 16 → getD (x ++ y) i 0 ≡ getD x i 0
+  octet-front : (i : ℕ) → i < 16 → getD (x ++ y) i 0 ≡ getD x i 0
   octet-front i h = List·getD-append x y 0 i (omega arith)
 
-  pub pair-front : (i : ℕ) → i < 15 → pair (x ++ y) i ≡ pair x i
+  pair-front : (i : ℕ) → i < 15 → pair (x ++ y) i ≡ pair x i
   pair-front i h = ap₂ (λ (a b : ℕ). 256 * a + b) (octet-front i (omega arith)) (octet-front (i + 1) (omega arith))
 
   pub kind-front : (k : ℕ) → isKind k (x ++ y) ≡ isKind k x
@@ -159,3 +117,44 @@ code-local s x y h = rw (kind-front x y h 4, pair-front x y h 4 (omega arith))
 pub phase-local : (s : List ℕ) → Local (partOf Phase s)
 unfolding partOf
 phase-local s x y h = rw (kind-front x y h 4, pair-front x y h 6 (omega arith), octet-front x y h 8 (omega arith))
+
+-- ---- a system's records
+-- something at each cell that is listed, in the order of the records
+unfoldable pub cellwise : {A : Type 0} → System → (ℕ → List A) → ℕ → ℕ → List A
+unfolding cellPlace cellsOf countBefore
+cellwise s h i g = cond (getD (s .signals) g false && getD (cellsOf s) (cellPlace s i g) false) (h (countBefore (cellsOf s) (cellPlace s i g))) []
+
+-- something at each satellite, and then at its cells
+abbrev pub rowwise : {A : Type 0} → System → (ℕ → List A) → (ℕ → List A) → ℕ → List A
+rowwise s g h i = cond (getD (s .satellites) i false) (g (countBefore (s .satellites) i) ++ build 16 (cellwise s h i)) []
+
+-- a part that takes nothing of the system's own record, g n of the nth satellite's and h n of the nth cell's, whichever these are
+module _ (m : Message) (p : ℕ) (s : System) (o : SystemOk s) (f : List ℕ → List Bool) (local : Local f) (g h : ℕ → List Bool)
+    (system : f (systemRecord m p s) ≡ []) (satellite : (i n : ℕ) → f (satelliteRecord m p s i n) ≡ g n) (cell : (i j n : ℕ) → f (cellRecord m p i j n) ≡ h n) where
+  of-cell : (i j : ℕ) → gatherAll f (cellRecords m p s i j) ≡ cellwise s h i j
+  unfolding cellRecords cellwise
+  of-cell i j =
+      let n : ℕ = countBefore (cellsOf s) (cellPlace s i j) in
+      onBool (getD (s .signals) j false && getD (cellsOf s) (cellPlace s i j) false)
+      (λ q. rw q (all-one f (cellRecord m p i j n) (length-cell m p i j n) ∙ cell i j n))
+      (λ q. rw q (all-none f))
+
+  of-satellite : (i : ℕ) → gatherAll f (satelliteRecords m p s i) ≡ rowwise s g h i
+  unfolding satelliteRecords
+  of-satellite i =
+      let n : ℕ = countBefore (s .satellites) i in
+      let r : List ℕ = satelliteRecord m p s i n in
+      let row : List ℕ = build 16 (cellRecords m p s i) in
+      onBool (getD (s .satellites) i false)
+      (λ q. rw q (
+      all-local f local r row (omega (arith, length-satellite m p s i n))
+      ∙ ap₂ (λ (a b : List Bool). a ++ b) (all-one f r (length-satellite m p s i n) ∙ satellite i n)
+      (build-local f local (cellRecords m p s i) (cell-whole m p s i) 16 ∙ build-ext 16 _ (cellwise s h i) (λ j l. of-cell i j))))
+      (λ q. rw q (all-none f))
+
+  pub of-system : gatherAll f (recordsOfSystem m p s) ≡ build 40 (rowwise s g h)
+  of-system =
+      let r : List ℕ = systemRecord m p s in
+      all-local f local r (build 40 (satelliteRecords m p s)) (omega (arith, length-system m p s o))
+      ∙ ap₂ (λ (a b : List Bool). a ++ b) (all-one f r (length-system m p s o) ∙ system)
+      (build-local f local (satelliteRecords m p s) (satellite-whole m p s o) 40 ∙ build-ext 40 _ (rowwise s g h) (λ i l. of-satellite i))

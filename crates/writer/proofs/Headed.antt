@@ -1,68 +1,60 @@
 -- The header, the mask and a block's flag and interval are rendered as their bits.
 -- The header's record holds the flags and intervals, and a system's record both its masks, octet by octet; the cell mask is what its cells' records tell.
-use Prim.Native.Nat.{ℕ, _+_, _*_, _/_, _%_, _≤_}
+use Prim.Native.Nat.{ℕ, _+_, _≤_}
 use native.Mathlib.Nat.{add-zero}
 use native.Mathlib.Omega.{arith}
 use mathlib.Core.Bool.{Bool, true, false, cond}
 use mathlib.Core.List.{List, [], _∷_, _++_, append-assoc}
-use mathlib.Core.Option.{Option, none, some, Option·some-injective}
+use mathlib.Core.Option.{Option, some, Option·some-injective}
 use mathlib.Core.Path.{_≡_, refl, sym, ap, ap₂, _∙_}
 use lib.Dec.{eqb}
 use lib.ListN.{length, getD, take, drop, length-append}
-use lib.Seq.{length-take-le, take-at, drop-at}
+use lib.Seq.{length-take-le, take-all, take-at, drop-at}
 use borrow.Author.Tests.{eqb-true}
 use Rattle.lists.proofs.Tests.{onBool}
 use Rattle.bits.specs.Bits.{num, bits, value, bitsOf, numberAt}
 use Rattle.bits.proofs.Values.{bits-value}
 use Rattle.bits.proofs.Octets.{length-bitsOf}
 use Rattle.bits.proofs.Runs.{number-fits}
-use Rattle.mt1.specs.Message.{System, Mask, Block, Message, hasMask}
+use Rattle.mt1.specs.Message.{Header, System, Mask, Block, Message, hasMask}
 use Rattle.mt1.specs.Mt1.{used}
 use Rattle.mt1.specs.Encode.{ifThere, headerBits, systemBits, maskBits, blockBits}
 use Rattle.mt1.specs.Valid.{HeaderOk, SystemOk, MaskOk, BlockOk, IfFlag}
 use Rattle.mt1.specs.Records.{part, intervalOf, headerRecord, systemRecord, satelliteRecords, records, build}
-use Rattle.mt1.proofs.Counts.{length-system}
+use Rattle.mt1.proofs.Several.{if-flag}
+use Rattle.mt1.proofs.Counts.{length-system, recordsOfSystem}
 use Rattle.mt1.proofs.Blocks.{Masked}
 use Rattle.writer.specs.declared.part.Part.the-variants as the-part
 use Rattle.writer.specs.Writer.{headerOf}
 use Rattle.writer.specs.Rendering.{isKind, gathered, systemPart, headerPart, maskPart, blockPart}
 use Rattle.writer.proofs.Canonical.{canonicalHeader, canonicalMask}
+use Rattle.writer.proofs.FieldOctets.{two-pair}
 use Rattle.writer.proofs.Cutting.{first, second}
-use Rattle.writer.proofs.SatelliteParts.{recordsOfSystem}
 use Rattle.writer.proofs.CellParts.{system-bits, cell-part}
 use Rattle.writer.proofs.BySystem.{by-system, systems-each, total-one, bits-by-system}
 
 -- ---- the header
 module _ (m : Message) (ss : List System) (h : HeaderOk (m .header)) where
-  pub flags-are : headerOf (records ss m) .flags ≡ m .header .flags
+  pub header-is : headerOf (records ss m) ≡ canonicalHeader (m .header)
   unfolding headerOf records headerRecord
-  flags-are = ap (λ (n : ℕ). bits n (value (m .header .flags))) (sym (h .flags)) ∙ bits-value (m .header .flags)
+  header-is =
+      ap₂ (λ (t : ℕ) (fs : List Bool). record { time = t; flags = fs; reserved = 0; maskId = m .header .maskId; iodSet = m .header .iodSet })
+      (two-pair (m .header .time) []) (bits-value 6 (m .header .flags) (h .flags))
 
   pub header-part : headerPart (records ss m) ≡ headerBits (canonicalHeader (m .header))
-  unfolding headerPart headerBits headerOf records headerRecord
-  header-part =
-      let e : 256 * (m .header .time / 256) + m .header .time % 256 ≡ m .header .time = omega arith in
-      ap₂ (λ (t : ℕ) (fs : List Bool). bits 12 t ++ (fs ++ (bits 4 0 ++ (bits 5 (m .header .maskId) ++ bits 5 (m .header .iodSet))))) e flags-are
+  unfolding headerPart headerBits headerOf
+  header-part = ap headerBits header-is
 
   -- a block: its flag and its interval
   pub block-part : {A : Type 0} (P : A → Type 0) (k : ℕ) (b : Option (Block A)) (enc : A → List Bool) (bs : List Bool) → getD (records ss m) (5 + k) 0 ≡ intervalOf b
       → IfFlag (getD (m .header .flags) k false) (BlockOk P) b → ((x : Block A) → b ≡ some x → P (x .body) → bs ≡ enc (x .body))
       → blockPart (records ss m) k bs ≡ ifThere (blockBits enc) b
   unfolding blockPart blockBits
-  block-part {A} P k b enc bs e o f = ap₂ (λ (fs : List Bool) (i : ℕ). cond (getD fs k false) (bits 4 i ++ bs) []) flags-are e ∙ there (getD (m .header .flags) k false) b o f
-    where
-      there : (flag : Bool) (b : Option (Block A)) → IfFlag flag (BlockOk P) b → ((x : Block A) → b ≡ some x → P (x .body) → bs ≡ enc (x .body))
-          → cond flag (bits 4 (intervalOf b) ++ bs) [] ≡ ifThere (blockBits enc) b
-      there true none o f = absurd o
-      there true (some x) o f = ap (λ (l : List Bool). bits 4 (x .interval) ++ l) (f x refl (o .body))
-      there false none o f = refl
-      there false (some x) o f = absurd o
+  block-part {A} P k b enc bs e o f = ap₂ (λ (x : Header) (i : ℕ). cond (getD (x .flags) k false) (bits 4 i ++ bs) []) header-is e
+      ∙ if-flag (BlockOk P) (λ flag y. ((x : Block A) → y ≡ some x → P (x .body) → bs ≡ enc (x .body)) → cond flag (bits 4 (intervalOf y) ++ bs) [] ≡ ifThere (blockBits enc) y)
+      (λ x v g. ap (λ (l : List Bool). bits 4 (x .interval) ++ l) (g x refl (v .body))) (λ g. refl) (getD (m .header .flags) k false) b o f
 
 -- ---- the mask
-no-elements : {A : Type 0} (l : List A) → length l ≡ 0 → l ≡ []
-no-elements [] e = refl
-no-elements (x ∷ l) e = absurd (let z : ⊥ = omega arith in z)
-
 module _ (m : Message) (p : ℕ) (s : System) (ok : SystemOk s) where
   -- the 56 bits of both masks, at bit 56 of the system's record
   masks-are : bits 56 (numberAt (bitsOf (recordsOfSystem m p s)) 56 56) ≡ s .satellites ++ s .signals
@@ -79,13 +71,12 @@ module _ (m : Message) (p : ℕ) (s : System) (ok : SystemOk s) where
       (ap (λ (b : List Bool). take 56 (drop 56 b)) (system-bits m p s ok rest)
       ∙ ap (take 56) (drop-at (bitsOf front) (s .satellites ++ (s .signals ++ behind)) 56 (omega (arith, length-bitsOf front, seven)) ∙ sym (append-assoc (s .satellites) (s .signals) behind))
       ∙ take-at masks behind 56 n))
-      ∙ ap (λ (k : ℕ). bits k (value masks)) (sym n)
-      ∙ bits-value masks
+      ∙ bits-value 56 masks n
 
   cells-are : cond (eqb (s .cellFlag) 1) (gathered the-part.Cell (recordsOfSystem m p s)) [] ≡ s .cells
   cells-are = onBool (eqb (s .cellFlag) 1)
       (λ e. ap (λ (b : Bool). cond b (gathered the-part.Cell (recordsOfSystem m p s)) []) e ∙ cell-part m p s ok (eqb-true (s .cellFlag) 1 e))
-      (λ e. ap (λ (b : Bool). cond b (gathered the-part.Cell (recordsOfSystem m p s)) []) e ∙ sym (no-elements (s .cells) (rw e at (ok .cells))))
+      (λ e. ap (λ (b : Bool). cond b (gathered the-part.Cell (recordsOfSystem m p s)) []) e ∙ take-all 0 (s .cells) (omega (arith, rw e at (ok .cells))))
 
   system-part : systemPart (recordsOfSystem m p s) ≡ systemBits s
   unfolding systemPart systemBits systemRecord
@@ -111,13 +102,10 @@ module _ (m : Message) (ss : List System) (k : Masked ss) where
       → maskPart (records ss m) (first m ss) (second m ss) ≡ ifThere maskBits (part canonicalMask (m .mask))
   unfolding maskPart used
   mask-part lent h o u =
-      ap (λ (fs : List Bool). cond (getD fs 0 false) bs []) (flags-are m ss h) ∙ there (hasMask (m .header)) (m .mask) o u
+      ap (λ (x : Header). cond (hasMask x) bs []) (header-is m ss h)
+      ∙ if-flag MaskOk (λ flag b. used lent (m .header) b ≡ some ss → cond flag bs [] ≡ ifThere maskBits (part canonicalMask b))
+      (λ own v w. systems-part ∙ ap (λ (l : List System). maskBits (record { systems = l; reserved = 0 })) (sym (Option·some-injective (own .systems) ss w)))
+      (λ w. refl) (hasMask (m .header)) (m .mask) o u
     where
       bs : List Bool
       bs = bits 4 (num (isKind 2 (first m ss)) + num (isKind 2 (second m ss))) ++ (systemPart (first m ss) ++ (systemPart (second m ss) ++ bits 6 0))
-
-      there : (flag : Bool) (b : Option Mask) → IfFlag flag MaskOk b → used lent (m .header) b ≡ some ss → cond flag bs [] ≡ ifThere maskBits (part canonicalMask b)
-      there true none o u = absurd o
-      there true (some own) o u = systems-part ∙ ap (λ (l : List System). maskBits (record { systems = l; reserved = 0 })) (sym (Option·some-injective (own .systems) ss u))
-      there false none o u = refl
-      there false (some own) o u = absurd o

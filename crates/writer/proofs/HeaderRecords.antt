@@ -19,6 +19,7 @@ use Rattle.mt1.specs.Mt1.{needsMask, used, Lent, lentFor, satellitesOf}
 use Rattle.mt1.specs.Encode.{encode}
 use Rattle.mt1.specs.Valid.{HeaderOk, MaskOk, OrbitsOk, ClocksOk, SubsetsOk, CodesOk, PhasesOk, BlockOk, IfFlag, Ok}
 use Rattle.mt1.specs.Records.{intervalOf, headerRecord, systemsIn}
+use Rattle.mt1.proofs.Several.{if-flag}
 use Rattle.mt1.proofs.Inverted.{inverse}
 use Rattle.writer.specs.Writer.{Exactly, pair, headerOf, intervalFits, numbersFit, intervalsFit, unnamedZero, isHeader, AMessageHas}
 
@@ -37,10 +38,7 @@ header-front l h = sym (ap isHeader (elements 16 0 l h))
 
 -- ---- from a message
 interval-fits : {A : Type 0} (P : A → Type 0) (flag : Bool) (b : Option (Block A)) → IfFlag flag (BlockOk P) b → intervalFits flag (intervalOf b) ≡ true
-interval-fits P true none o = absurd o
-interval-fits P true (some b) o = lt-ltb (b .interval) 15 (o .interval)
-interval-fits P false none o = refl
-interval-fits P false (some b) o = absurd o
+interval-fits P = if-flag (BlockOk P) (λ flag x. intervalFits flag (intervalOf x) ≡ true) (λ b o. lt-ltb (b .interval) 15 (o .interval)) refl
 
 module _ (lent : Option Mask) (ss : List System) (m : Message) (o : Ok lent ss m) where
   numbers-fit : numbersFit (headerRecord m) ≡ true
@@ -57,8 +55,7 @@ module _ (lent : Option Mask) (ss : List System) (m : Message) (o : Ok lent ss m
   fits : {A : Type 0} (P : A → Type 0) (k : ℕ) (b : Option (Block A)) → IfFlag (getD (m .header .flags) k false) (BlockOk P) b
       → intervalFits (getD (bits 6 (value (m .header .flags))) k false) (intervalOf b) ≡ true
   fits P k b i =
-      ap (λ (n : ℕ). intervalFits (getD (bits n (value (m .header .flags))) k false) (intervalOf b)) (sym (o .header .flags))
-      ∙ ap (λ (fs : List Bool). intervalFits (getD fs k false) (intervalOf b)) (bits-value (m .header .flags))
+      ap (λ (fs : List Bool). intervalFits (getD fs k false) (intervalOf b)) (bits-value 6 (m .header .flags) (o .header .flags))
       ∙ interval-fits P (getD (m .header .flags) k false) b i
 
   pub message-header : isHeader (headerRecord m) ≡ true

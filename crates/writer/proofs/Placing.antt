@@ -3,19 +3,20 @@
 use Prim.Native.Nat.{ℕ, _+_, _≤_}
 use native.Mathlib.Omega.{arith}
 use mathlib.Core.Bool.{Bool, true, false, cond, false≢true, true≢false}
-use mathlib.Core.List.{List, [], _∷_, _++_}
+use mathlib.Core.List.{List, [], _++_}
 use mathlib.Core.Path.{_≡_, subst, _∙_}
 use lib.Dec.{eqb}
 use lib.ListN.{length, getD, length-append}
+use Rattle.lists.proofs.Tests.{if-le}
 use Rattle.bits.specs.Bits.{num, bits, bitsOf, numberAt}
 use Rattle.bits.proofs.Values.{length-bits}
 use Rattle.writer.specs.declared.part.Part.{Part}
 use Rattle.writer.specs.declared.part.Part.the-variants.{Orbit, Clock, Chosen, SubsetClock, Code, Phase, Cell}
 use Rattle.mt1.specs.Message.{hasMask}
 use Rattle.writer.specs.Writer.{pair, headerOf}
-use Rattle.writer.specs.Rendering.{Appends, Whole, isKind, inSubset, gathered, most, systemPart, multiplierPart, subsetPart, headerPart, maskPart, blockPart, both, clocksPart, subsetsPart}
+use Rattle.writer.specs.Rendering.{Appends, isKind, inSubset, gathered, most, systemPart, multiplierPart, subsetPart, headerPart, maskPart, blockPart, both, clocksPart, subsetsPart}
 use Rattle.writer.proofs.Appending.{appends-none}
-use Rattle.writer.proofs.Weights.{cond-most, gathered-most}
+use Rattle.writer.proofs.Weights.{gathered-most}
 
 -- a number that is another one
 pub appends-is : {d e : List ℕ} {at end v w : ℕ} (n : ℕ) → v ≡ w → Appends d at e end (bits n v) → Appends d at e end (bits n w)
@@ -46,19 +47,15 @@ kept false e p = absurd (false≢true e)
 pub bits-few : (n v : ℕ) → length (bits n v) ≤ n
 bits-few n v = omega (arith, length-bits n v)
 
-pub num-few : (b : Bool) → num b ≤ 1
-num-few true = omega arith
-num-few false = omega arith
-
-pub append-few : (xs ys : List Bool) (n k : ℕ) → length xs ≤ n → length ys ≤ k → length (xs ++ ys) ≤ n + k
+append-few : (xs ys : List Bool) (n k : ℕ) → length xs ≤ n → length ys ≤ k → length (xs ++ ys) ≤ n + k
 append-few xs ys n k h g = omega (arith, length-append xs ys, h, g)
 
 pub multiplier-few : (s : List ℕ) → length (multiplierPart s) ≤ 2
 unfolding multiplierPart
-multiplier-few s = cond-most (isKind 2 s) (bits 2 (getD s 5 0)) 2 (bits-few 2 (getD s 5 0))
+multiplier-few s = if-le (isKind 2 s) (bits 2 (getD s 5 0)) 2 (bits-few 2 (getD s 5 0))
 
 pub cells-few : (s : List ℕ) → length (cond (eqb (getD s 3 0) 1) (gathered Cell s) []) ≤ most Cell s
-cells-few s = cond-most (eqb (getD s 3 0) 1) (gathered Cell s) (most Cell s) (gathered-most Cell s)
+cells-few s = if-le (eqb (getD s 3 0) 1) (gathered Cell s) (most Cell s) (gathered-most Cell s)
 
 pub system-few : (s : List ℕ) → length (systemPart s) ≤ 64 + most Cell s
 unfolding systemPart
@@ -68,7 +65,7 @@ system-few s =
     let flag = bits 1 (getD s 3 0) in
     let cells = cond (eqb (getD s 3 0) 1) (gathered Cell s) [] in
     let navigation = bits 3 (getD s 4 0) in
-    cond-most (isKind 2 s) (id ++ (masks ++ (flag ++ (cells ++ navigation)))) (64 + most Cell s)
+    if-le (isKind 2 s) (id ++ (masks ++ (flag ++ (cells ++ navigation)))) (64 + most Cell s)
     (omega (
       arith,
       length-append id (masks ++ (flag ++ (cells ++ navigation))),
@@ -87,7 +84,7 @@ unfolding subsetPart
 subset-few s =
     let id = bits 4 (getD s 2 0) in
     let multiplier = bits 2 (getD s 6 0) in
-    cond-most (inSubset s) (id ++ (multiplier ++ (gathered Chosen s ++ gathered SubsetClock s))) (6 + most Chosen s + most SubsetClock s)
+    if-le (inSubset s) (id ++ (multiplier ++ (gathered Chosen s ++ gathered SubsetClock s))) (6 + most Chosen s + most SubsetClock s)
     (omega (
       arith,
       length-append id (multiplier ++ (gathered Chosen s ++ gathered SubsetClock s)),
@@ -124,7 +121,7 @@ pub mask-few : (l a b : List ℕ) → length (maskPart l a b) ≤ maskMost a b
 unfolding maskPart
 mask-few l a b =
     let count = num (isKind 2 a) + num (isKind 2 b) in
-    cond-most (hasMask (headerOf l)) (bits 4 count ++ (systemPart a ++ (systemPart b ++ bits 6 0))) (maskMost a b)
+    if-le (hasMask (headerOf l)) (bits 4 count ++ (systemPart a ++ (systemPart b ++ bits 6 0))) (maskMost a b)
     (omega (
       arith,
       length-append (bits 4 count) (systemPart a ++ (systemPart b ++ bits 6 0)),
@@ -139,7 +136,7 @@ mask-few l a b =
 pub block-few : (l : List ℕ) (k : ℕ) (body : List Bool) (n : ℕ) → length body ≤ n → length (blockPart l k body) ≤ 4 + n
 unfolding blockPart
 block-few l k body n h =
-    cond-most (getD (headerOf l .flags) k false) (bits 4 (getD l (5 + k) 0) ++ body) (4 + n) (append-few (bits 4 (getD l (5 + k) 0)) body 4 n (bits-few 4 (getD l (5 + k) 0)) h)
+    if-le (getD (headerOf l .flags) k false) (bits 4 (getD l (5 + k) 0) ++ body) (4 + n) (append-few (bits 4 (getD l (5 + k) 0)) body 4 n (bits-few 4 (getD l (5 + k) 0)) h)
 
 pub both-few : (part : Part) (a b : List ℕ) → length (both part a b) ≤ bothMost part a b
 both-few part a b = append-few (gathered part a) (gathered part b) (most part a) (most part b) (gathered-most part a) (gathered-most part b)
@@ -168,11 +165,6 @@ subsets-few a b =
     )
 
 -- ---- room
--- a system's own record is whole
-pub system-long : (s : List ℕ) → isKind 2 s ≡ true → Whole s → 16 ≤ length s
-system-long [] e w = absurd (false≢true e)
-system-long (x ∷ xs) e w = omega (arith, w .whole)
-
 -- the most bits of a message up to the end of each part
 abbrev pub toMask : List ℕ → List ℕ → ℕ
 toMask a b = 32 + maskMost a b

@@ -1,15 +1,15 @@
 -- What the record at an octet of a list holds, and what a part takes of it.
 -- An element of a list's end is one of the list, as many places further; a part takes nothing of a record of another kind.
-use Prim.Native.Nat.{ℕ, _+_, _*_, _/_, _-_, _^_, _≤_}
+use Prim.Native.Nat.{ℕ, suc, _+_, _*_, _/_, _%_, _-_, _^_, _≤_}
 use native.Mathlib.Nat.{add-zero, add-assoc}
 use native.Mathlib.Omega.{arith}
 use mathlib.Core.Bool.{Bool, true, false, not, _&&_}
-use mathlib.Core.List.{List, [], _++_}
+use mathlib.Core.List.{List, [], _∷_, _++_}
 use mathlib.Core.Path.{_≡_, sym, ap, ap₂, _∙_}
 use lib.Dec.{eqb}
 use lib.ListN.{length, getD, drop}
 use lib.Seq.{getD-drop, drop-drop}
-use borrow.Author.Tests.{eq-eqb, ne-eqb}
+use borrow.Author.Tests.{eqb-true, eq-eqb, ne-eqb}
 use Rattle.bits.specs.Bits.{num, odd, bits, bitsOf}
 use Rattle.bits.proofs.Values.{bits-at}
 use Rattle.bits.proofs.Octets.{bitsOf-at}
@@ -28,6 +28,11 @@ flag-at l k h n =
     ∙ ap (λ (m : ℕ). odd (getD l 1 0 / 2 ^ m)) e
     ∙ sym (bits-at 6 (getD l 1 0) k (omega arith))
 
+-- whole records of which the first has a kind are one at least
+pub kind-long : (k : ℕ) (l : List ℕ) → isKind (suc k) l ≡ true → length l % 16 ≡ 0 → 16 ≤ length l
+kind-long k [] e w = omega (arith, eqb-true 0 (suc k) e)
+kind-long k (x ∷ l) e w = omega (arith, w)
+
 -- the kind of record that a part is taken of
 abbrev pub kindOf : Part → ℕ
 kindOf Orbit = 3
@@ -39,7 +44,7 @@ kindOf Phase = 4
 kindOf Cell = 3
 
 module _ (s : List ℕ) (o : ℕ) where
-  pub kind-at : (k : ℕ) → isKind k (drop o s) ≡ eqb (getD s o 0) k
+  kind-at : (k : ℕ) → isKind k (drop o s) ≡ eqb (getD s o 0) k
   kind-at k = ap (λ (x : ℕ). eqb x k) (getD-drop o s 0 0 ∙ ap (λ (i : ℕ). getD s i 0) (add-zero o))
 
   pub pair-at : (i : ℕ) → pair (drop o s) i ≡ pair s (o + i)
@@ -54,11 +59,11 @@ module _ (s : List ℕ) (o : ℕ) where
   pub cell-at : (g : ℕ) → isCell g (drop o s) ≡ (eqb (getD s o 0) 4 && eqb (getD s (o + 3) 0) g)
   cell-at g = ap₂ (λ (a b : Bool). a && b) (kind-at 4) (ap (λ (x : ℕ). eqb x g) (getD-drop o s 3 0))
 
-  kind-is : {k : ℕ} → getD s o 0 ≡ k → isKind k (drop o s) ≡ true
+  pub kind-is : {k : ℕ} → getD s o 0 ≡ k → isKind k (drop o s) ≡ true
   kind-is {k} e = kind-at k ∙ eq-eqb _ k e
 
   -- a record of another kind
-  kind-not : {k : ℕ} → (getD s o 0 ≡ k → ⊥) → isKind k (drop o s) ≡ false
+  pub kind-not : {k : ℕ} → (getD s o 0 ≡ k → ⊥) → isKind k (drop o s) ≡ false
   kind-not {k} n = kind-at k ∙ ne-eqb _ k n
 
   pub part-none : (part : Part) → (getD s o 0 ≡ kindOf part → ⊥) → partOf part s (drop o s) ≡ []

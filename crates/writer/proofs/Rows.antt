@@ -14,10 +14,10 @@ use Rattle.writer.specs.Rendering.{isCell, row, signalsOf}
 
 -- a system's signals
 module _ (s : List ℕ) (h : 16 ≤ length s) where
-  pub length-signals : length (signalsOf s) ≡ 16
+  length-signals : length (signalsOf s) ≡ 16
   length-signals = length-take-le 16 (drop 96 (bitsOf s)) (omega (arith, length-drop 96 (bitsOf s), length-bitsOf s))
 
-  pub signal-at : (g : ℕ) → g < 16 → getD (signalsOf s) g false ≡ getD (bitsOf s) (96 + g) false
+  signal-at : (g : ℕ) → g < 16 → getD (signalsOf s) g false ≡ getD (bitsOf s) (96 + g) false
   signal-at g k = getD-take 16 (drop 96 (bitsOf s)) g false k ∙ getD-drop 96 (bitsOf s) g false
 
   -- no signal is left

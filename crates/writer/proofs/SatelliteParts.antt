@@ -1,28 +1,30 @@
 -- What the writer gathers of a system's satellites is the message's row of them: orbits, clocks, and the subset's choice and clocks.
 -- The system's record and the cells give nothing, and the record of the nth masked satellite holds the nth values.
-use Prim.Native.Nat.{ℕ, zero, suc, _%_, _^_, _<_}
+use Prim.Native.Nat.{ℕ, _^_, _<_}
 use native.Mathlib.Omega.{arith}
-use mathlib.Core.Bool.{Bool, true, false, not, _&&_, cond}
+use mathlib.Core.Bool.{Bool, false, not, _&&_, cond}
 use mathlib.Core.List.{List, [], _∷_, _++_, append-nil}
 use mathlib.Core.Option.{Option, some}
 use mathlib.Core.Path.{_≡_, refl, sym, ap, ap₂, _∙_}
 use lib.Dec.{eqb}
-use lib.ListN.{length, getD, length-append}
-use Rattle.lists.specs.Lists.{Every}
-use Rattle.lists.proofs.Tests.{onBool, clash}
+use lib.ListN.{length, getD}
+use Rattle.lists.proofs.Tests.{onBool, cond-holds}
 use Rattle.bits.specs.Bits.{bits, num}
+use Rattle.bits.proofs.Values.{bit-one}
 use Rattle.mt1.specs.Message as message
 use Rattle.mt1.specs.Message.{System, Subset, Block, Clocks, Message, count, countBefore, cellsOf}
 use Rattle.mt1.specs.Mt1.{iodBits}
 use Rattle.mt1.specs.Encode.{each, orbitBits}
 use Rattle.mt1.specs.Valid.{SystemOk, Row, OrbitOk}
-use Rattle.mt1.specs.Records.{part, at, body, ofSystem, subsetOf, subsetClock, iodOr, signedOr, systemRecord, satelliteRecord, cellRecord, build, cellPlace, cellRecords, satelliteRecords}
-use Rattle.mt1.proofs.Counts.{count-all, length-system, length-satellite, length-cell}
+use Rattle.mt1.specs.Records.{part, at, body, ofSystem, subsetOf, subsetClock, iodOr, signedOr, systemRecord, satelliteRecord, cellRecord, build, cellPlace}
+use Rattle.mt1.proofs.Elements.{at-there, every-some}
+use Rattle.mt1.proofs.Counts.{count-all, before-lt, recordsOfSystem}
+use Rattle.mt1.proofs.Building.{build-ext, build-empty, picked, build-each, build-bits}
 use Rattle.writer.specs.declared.part.Part.the-variants.{Orbit, Clock, Chosen, SubsetClock}
 use Rattle.writer.specs.Writer.{pair}
 use Rattle.writer.specs.Rendering.{partOf, gathered}
-use Rattle.writer.proofs.Gathering.{gatherAll, Local, all-local, build-local, build-whole, all-none, all-one, build-ext, build-empty, build-first, picked, build-each, orbit-local, clock-local, chosen-local, subset-clock-local}
-use Rattle.writer.proofs.FieldOctets.{widened-13, widened-12, there-13, wordOf, iod-front, signed-front, iod-pair, signed-pair}
+use Rattle.writer.proofs.Gathering.{gatherAll, Local, orbit-local, clock-local, chosen-local, subset-clock-local, cellwise, rowwise, of-system}
+use Rattle.writer.proofs.FieldOctets.{widened-13, widened-12, there-13, wordOf, two-pair, signed-front, iod-pair, signed-pair}
 
 -- ---- a satellite's octets
 -- from octet 4 on: the IOD, three corrections, the clock and the subset's clock
@@ -80,7 +82,7 @@ module _ (s : List ℕ) (p i : ℕ) where
       let r = some (o .radial) in
       let t = some (o .inTrack) in
       let w = some (o .crossTrack) in
-      ap₂ (λ (x y : List Bool). x ++ y) (ap (bits (iodBits (getD s 2 0))) (iod-front (o .iod) (l1 a r t w c u)))
+      ap₂ (λ (x y : List Bool). x ++ y) (ap (bits (iodBits (getD s 2 0))) (two-pair (o .iod) (l1 a r t w c u)))
       (ap₂ (λ (x y : List Bool). x ++ y) (ap (bits 13) (radial-at a r t w c u) ∙ widened-13 (o .radial))
       (ap₂ (λ (x y : List Bool). x ++ y) (ap (bits 12) (in-track-at a r t w c u) ∙ widened-12 (o .inTrack))
       (ap (bits 12) (cross-track-at a r t w c u) ∙ widened-12 (o .crossTrack))))
@@ -101,95 +103,24 @@ module _ (s : List ℕ) (p i : ℕ) where
     unfolding partOf
     subset-clock-of = ap (λ (w : ℕ). cond (not (eqb w 32768)) (bits 13 w) []) subset-pair
 
--- ---- a system's records, one by one
-if-whole : (b : Bool) (l : List ℕ) → length l % 16 ≡ 0 → length (cond b l []) % 16 ≡ 0
-if-whole true l e = e
-if-whole false l e = refl
+-- ---- a part that takes h n of the nth satellite's record, whichever satellite it is, and nothing of the others
+module _ (m : Message) (p : ℕ) (s : System) (ok : SystemOk s) (f : List ℕ → List Bool) (local : Local f) (no-system : f (systemRecord m p s) ≡ [])
+    (no-cell : (i g n : ℕ) → f (cellRecord m p i g n) ≡ []) (h : ℕ → List Bool) (nth : (i n : ℕ) → f (satelliteRecord m p s i n) ≡ h n) where
+  no-cells : (i : ℕ) → _≡_ {A = List Bool} (build 16 (cellwise s (λ n. []) i)) []
+  unfolding cellwise
+  no-cells i =
+      build-ext 16 (cellwise s (λ n. []) i) (λ g. [])
+      (λ g k. cond-holds (λ (r : List Bool). r ≡ []) (getD (s .signals) g false && getD (cellsOf s) (cellPlace s i g) false) refl refl)
+      ∙ build-empty 16
 
-gather-if : (f : List ℕ → List Bool) (b : Bool) (l : List ℕ) (r : List Bool) → gatherAll f l ≡ r → gatherAll f (cond b l []) ≡ cond b r []
-gather-if f true l r e = e
-gather-if f false l r e = all-none f
-
-none-if : (b : Bool) → _≡_ {A = List Bool} (cond b [] []) []
-none-if true = refl
-none-if false = refl
-
-abbrev pub recordsOfSystem : Message → ℕ → System → List ℕ
-recordsOfSystem m p s = systemRecord m p s ++ build 40 (satelliteRecords m p s)
-
-module _ (m : Message) (p : ℕ) (s : System) where
-  pub cell-whole : (i g : ℕ) → length (cellRecords m p s i g) % 16 ≡ 0
-  unfolding cellRecords
-  cell-whole i g =
-      let n = countBefore (cellsOf s) (cellPlace s i g) in
-      if-whole (getD (s .signals) g false && getD (cellsOf s) (cellPlace s i g) false) (cellRecord m p i g n) (omega (arith, length-cell m p i g n))
-
-  pub satellite-whole : (i : ℕ) → length (satelliteRecords m p s i) % 16 ≡ 0
-  unfolding satelliteRecords
-  satellite-whole i =
-      let r = satelliteRecord m p s i (countBefore (s .satellites) i) in
-      let l = build 16 (cellRecords m p s i) in
-      if-whole (getD (s .satellites) i false) (r ++ l)
-      (omega (arith, length-append r l, length-satellite m p s i (countBefore (s .satellites) i), build-whole (cellRecords m p s i) (cell-whole i) 16))
-
-  -- a part that takes of the nth satellite's record h n, whichever satellite it is, and nothing of the others
-  module _ (ok : SystemOk s) (f : List ℕ → List Bool) (local : Local f) (no-system : f (systemRecord m p s) ≡ []) (no-cell : (i g n : ℕ) → f (cellRecord m p i g n) ≡ [])
-      (h : ℕ → List Bool) (nth : (i n : ℕ) → f (satelliteRecord m p s i n) ≡ h n) where
-    cell-none : (i g : ℕ) → gatherAll f (cellRecords m p s i g) ≡ []
-    unfolding cellRecords
-    cell-none i g =
-        let n = countBefore (cellsOf s) (cellPlace s i g) in
-        let b = getD (s .signals) g false && getD (cellsOf s) (cellPlace s i g) false in
-        gather-if f b (cellRecord m p i g n) [] (all-one f (cellRecord m p i g n) (length-cell m p i g n) ∙ no-cell i g n) ∙ none-if b
-
-    cells-none : (i : ℕ) → gatherAll f (build 16 (cellRecords m p s i)) ≡ []
-    cells-none i = build-local f local (cellRecords m p s i) (cell-whole i) 16 ∙ build-ext 16 _ (λ g. []) (λ g k. cell-none i g) ∙ build-empty 16
-
-    satellite-one : (i : ℕ) → gatherAll f (satelliteRecords m p s i) ≡ cond (getD (s .satellites) i false) (h (countBefore (s .satellites) i)) []
-    unfolding satelliteRecords
-    satellite-one i =
-        let n = countBefore (s .satellites) i in
-        let r = satelliteRecord m p s i n in
-        let l = build 16 (cellRecords m p s i) in
-        gather-if f (getD (s .satellites) i false) (r ++ l) (h n)
-        (all-local f local r l (omega (arith, length-satellite m p s i n))
-        ∙ ap₂ (λ (x y : List Bool). x ++ y) (all-one f r (length-satellite m p s i n) ∙ nth i n) (cells-none i)
-        ∙ append-nil (h n))
-
-    pub satellites-all : gatherAll f (recordsOfSystem m p s) ≡ build (count (s .satellites)) h
-    satellites-all =
-        let l = build 40 (satelliteRecords m p s) in
-        all-local f local (systemRecord m p s) l (omega (arith, length-system m p s ok))
-        ∙ ap₂ (λ (x y : List Bool). x ++ y) (all-one f (systemRecord m p s) (length-system m p s ok) ∙ no-system)
-        (build-local f local (satelliteRecords m p s) satellite-whole 40
-        ∙ build-ext 40 _ _ (λ i k. satellite-one i)
-        ∙ picked (s .satellites) 40 h
-        ∙ ap (λ (k : ℕ). build k h) (count-all (s .satellites) 40 (omega (arith, ok .satellites))))
-
--- ---- a row
--- what is at a place of a list, of all of which something holds
-pub every-at : {A : Type 0} (P : A → Type 0) (xs : List A) (i : ℕ) → Every P xs → i < length xs → (x : A) × (at xs i ≡ some x) × P x
-unfolding at
-every-at P [] i o h = absurd (let z : ⊥ = omega arith in z)
-every-at P (x ∷ xs) zero (o, os) h = (x, refl, o)
-every-at P (x ∷ xs) (suc i) (o, os) h = every-at P xs i os (omega arith)
-
--- before a bit that is 1 there are fewer than in all
-pub count-lt : (bs : List Bool) (i : ℕ) → getD bs i false ≡ true → countBefore bs i < count bs
-unfolding count countBefore
-count-lt [] i e = clash e refl
-count-lt (b ∷ bs) zero e = rw e (omega arith)
-count-lt (b ∷ bs) (suc i) e = omega (arith, count-lt bs i e)
-
-build-bits : (bs : List Bool) → build (length bs) (λ i. getD bs i false ∷ []) ≡ bs
-unfolding build
-build-bits [] = refl
-build-bits (b ∷ bs) = build-first (length bs) (λ i. getD (b ∷ bs) i false ∷ []) ∙ ap {B = List Bool} (λ r. b ∷ r) (build-bits bs)
-
-bit-one : (b : Bool) → bits 1 (num b) ≡ b ∷ []
-unfolding bits
-bit-one true = refl
-bit-one false = refl
+  satellites-all : gatherAll f (recordsOfSystem m p s) ≡ build (count (s .satellites)) h
+  satellites-all =
+      of-system m p s ok f local h (λ n. []) no-system nth no-cell
+      ∙ build-ext 40 (rowwise s h (λ n. [])) (λ i. cond (getD (s .satellites) i false) (h (countBefore (s .satellites) i)) [])
+      (λ i k. ap (λ (r : List Bool). cond (getD (s .satellites) i false) r [])
+      (ap (λ (r : List Bool). h (countBefore (s .satellites) i) ++ r) (no-cells i) ∙ append-nil (h (countBefore (s .satellites) i))))
+      ∙ picked (s .satellites) 40 h
+      ∙ ap (λ (k : ℕ). build k h) (count-all (s .satellites) 40 (omega (arith, ok .satellites)))
 
 -- ---- the subset's clock
 module _ (x : Subset) (row : Row (count (x .chosen)) (λ v. v < 2 ^ 13) (x .clocks)) where
@@ -198,11 +129,10 @@ module _ (x : Subset) (row : Row (count (x .chosen)) (λ v. v < 2 ^ 13) (x .cloc
   unfolding subsetClock
   there-chosen n =
       onBool (getD (x .chosen) n false)
-      (λ q. rw q (found (every-at (λ v. v < 2 ^ 13) (x .clocks) (countBefore (x .chosen) n) (row .1) (omega (arith, row .0, count-lt (x .chosen) n q)))))
+      (λ q. rw q (
+      let (v, e) = at-there (x .clocks) (countBefore (x .chosen) n) (omega (arith, row .0, before-lt (x .chosen) n q)) in
+      ap isThere e ∙ ap not (there-13 v (every-some (λ v. v < 2 ^ 13) (x .clocks) (countBefore (x .chosen) n) e (row .1)))))
       (λ q. rw q)
-    where
-      found : (v : ℕ) × (at (x .clocks) (countBefore (x .chosen) n) ≡ some v) × (v < 2 ^ 13) → isThere (at (x .clocks) (countBefore (x .chosen) n)) ≡ true
-      found (v, e, l) = ap isThere e ∙ ap not (there-13 v l)
 
   -- and then it is the next
   taken-clock : (n : ℕ) → cond (isThere (subsetClock (some x) n)) (bits 13 (wordOf 4096 (subsetClock (some x) n))) []
@@ -230,11 +160,11 @@ module _ (m : Message) (p : ℕ) (s : System) (ok : SystemOk s) where
   pub orbit-part : (b : Block (List (List message.Orbit))) → m .orbits ≡ some b → Row (count (s .satellites)) (OrbitOk (s .id)) (getD (b .body) p [])
       → gathered Orbit (recordsOfSystem m p s) ≡ each (orbitBits (s .id)) (getD (b .body) p [])
   unfolding gathered partOf systemRecord satelliteRecord cellRecord ofSystem
-  orbit-part b e (n, os) =
+  orbit-part b e r =
       satellites-all m p s ok (partOf Orbit own) (orbit-local own) refl (λ i g k. refl) h (λ i k. refl)
-      ∙ ap (λ (k : ℕ). build k h) (sym n)
-      ∙ build-each (OrbitOk (s .id)) (orbitBits (s .id)) (getD (b .body) p []) h os
-      (λ k x q o. ap (λ (y : Option message.Orbit). partOf Orbit own (satelliteOf p 0 y (clockAt k) (subsetAt k))) (ap (λ (y : Option (Block (List (List message.Orbit)))). ofSystem y p k) e ∙ q)
+      ∙ ap (λ (k : ℕ). build k h) (sym (r .0))
+      ∙ build-each (orbitBits (s .id)) (getD (b .body) p []) h
+      (λ k x q. ap (λ (y : Option message.Orbit). partOf Orbit own (satelliteOf p 0 y (clockAt k) (subsetAt k))) (ap (λ (y : Option (Block (List (List message.Orbit)))). ofSystem y p k) e ∙ q)
       ∙ orbit-of own p 0 x (clockAt k) (subsetAt k))
     where
       h : ℕ → List Bool
@@ -243,11 +173,11 @@ module _ (m : Message) (p : ℕ) (s : System) (ok : SystemOk s) where
   pub clock-part : (b : Block Clocks) → m .clocks ≡ some b → Row (count (s .satellites)) (λ v. v < 2 ^ 13) (getD (b .body .clocks) p [])
       → gathered Clock (recordsOfSystem m p s) ≡ each (bits 13) (getD (b .body .clocks) p [])
   unfolding gathered partOf systemRecord satelliteRecord cellRecord ofSystem
-  clock-part b e (n, os) =
+  clock-part b e r =
       satellites-all m p s ok (partOf Clock own) (clock-local own) refl (λ i g k. refl) h (λ i k. clock-of own p i (orbitAt k) (clockAt k) (subsetAt k))
-      ∙ ap (λ (k : ℕ). build k h) (sym n)
-      ∙ build-each (λ v. v < 2 ^ 13) (bits 13) (getD (b .body .clocks) p []) h os
-      (λ k v q o. ap (λ (y : Option ℕ). bits 13 (wordOf 4096 y)) (ap (λ (y : Option (Block Clocks)). ofSystem (body (λ c. c .clocks) y) p k) e ∙ q) ∙ widened-13 v)
+      ∙ ap (λ (k : ℕ). build k h) (sym (r .0))
+      ∙ build-each (bits 13) (getD (b .body .clocks) p []) h
+      (λ k v q. ap (λ (y : Option ℕ). bits 13 (wordOf 4096 y)) (ap (λ (y : Option (Block Clocks)). ofSystem (body (λ c. c .clocks) y) p k) e ∙ q) ∙ widened-13 v)
     where
       h : ℕ → List Bool
       h k = bits 13 (wordOf 4096 (clockAt k))
@@ -272,7 +202,7 @@ module _ (m : Message) (p : ℕ) (s : System) (ok : SystemOk s) where
         ∙ taken-clock x row k)
         ∙ picked (x .chosen) (count (s .satellites)) h
         ∙ ap (λ (k : ℕ). build k h) (count-all (x .chosen) (count (s .satellites)) (omega (arith, all)) ∙ sym (row .0))
-        ∙ build-each (λ v. v < 2 ^ 13) (bits 13) (x .clocks) h (row .1) (λ k v q o. ap (λ (y : Option ℕ). bits 13 (wordOf 4096 y)) q ∙ widened-13 v)
+        ∙ build-each (bits 13) (x .clocks) h (λ k v q. ap (λ (y : Option ℕ). bits 13 (wordOf 4096 y)) q ∙ widened-13 v)
       where
         h : ℕ → List Bool
         h k = bits 13 (wordOf 4096 (at (x .clocks) k))

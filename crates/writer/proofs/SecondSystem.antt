@@ -1,34 +1,30 @@
 -- Where the second system's records begin, record by record; and that no system's record is where there are no octets.
 -- Each turn takes one record off the front of those that are left.
-use Prim.Native.Nat.{ℕ, suc, _+_, _*_, _-_, _/_, _<_}
+use Prim.Native.Nat.{ℕ, zero, suc, _+_, _*_, _-_, _/_, _<_}
 use native.Mathlib.Nat.{add-zero}
 use native.Mathlib.Omega.{arith}
-use mathlib.Core.Bool.{Bool, false, cond}
+use mathlib.Core.Bool.{Bool, true, false, cond}
 use mathlib.Core.List.{List, [], _∷_}
 use mathlib.Core.Path.{_≡_, refl, sym, ap, subst, _∙_}
 use borrow.Author.Tests.{eq-eqb, ne-eqb}
 use lib.ListN.{length, getD, take, drop, length-drop}
-use lib.Seq.{getD-drop, drop-drop, take-all}
+use lib.Seq.{drop-drop, take-all}
 use Rattle.writer.specs.Rendering.{Appends, isKind, untilSystem, secondAt, renderedOf, rendered}
+use Rattle.writer.proofs.RecordFields.{kind-is, kind-not}
 
 pub none-kind : (s : List ℕ) → length s ≡ 0 → false ≡ isKind 2 s
 none-kind [] e = refl
 none-kind (x ∷ xs) e = absurd (omega (arith, e))
 
 -- ---- one record
-module _ (m : ℕ) (l : List ℕ) (at : ℕ) where
-  first : getD (drop at l) 0 0 ≡ getD l at 0
-  first = getD-drop at l 0 0 ∙ ap (λ (i : ℕ). getD l i 0) (add-zero at)
+pub until-stop : (m : ℕ) (l : List ℕ) → isKind 2 l ≡ true → untilSystem m l ≡ 0
+unfolding untilSystem
+until-stop zero l e = refl
+until-stop (suc m) l e = rw e
 
-  until-stop : getD l at 0 ≡ 2 → untilSystem (suc m) (drop at l) ≡ 0
-  unfolding untilSystem
-  until-stop e = ap (λ (b : Bool). cond b 0 (16 + untilSystem m (drop 16 (drop at l)))) (eq-eqb (getD (drop at l) 0 0) 2 (first ∙ e))
-
-  until-go : (getD l at 0 ≡ 2 → ⊥) → untilSystem (suc m) (drop at l) ≡ 16 + untilSystem m (drop (at + 16) l)
-  unfolding untilSystem
-  until-go e =
-      ap (λ (b : Bool). cond b 0 (16 + untilSystem m (drop 16 (drop at l)))) (ne-eqb (getD (drop at l) 0 0) 2 (λ q. e (sym first ∙ q)))
-      ∙ ap (λ (r : List ℕ). 16 + untilSystem m r) (drop-drop 16 at l)
+pub until-go : (m : ℕ) (l : List ℕ) → isKind 2 l ≡ false → untilSystem (suc m) l ≡ 16 + untilSystem m (drop 16 l)
+unfolding untilSystem
+until-go m l e = rw e
 
 -- ---- k records that are no system's, of n from an octet on
 abbrev pub Until : List ℕ → ℕ → ℕ → ℕ → Type 0
@@ -42,12 +38,13 @@ module _ (l : List ℕ) (octet n : ℕ) where
 
   module _ (k : ℕ) (u : Until l octet n k) where
     pub until-here : k < n → getD l (octet + 16 * k) 0 ≡ 2 → 16 * k ≡ untilSystem n (drop octet l)
-    until-here h e = omega (arith, u (suc (n - k - 1)) (omega (arith, h)), until-stop (n - k - 1) l (octet + 16 * k) e)
+    until-here h e = omega (arith, u (suc (n - k - 1)) (omega (arith, h)), until-stop (suc (n - k - 1)) (drop (octet + 16 * k) l) (kind-is l (octet + 16 * k) e))
 
     pub until-more : (getD l (octet + 16 * k) 0 ≡ 2 → ⊥) → Until l octet n (k + 1)
     until-more e m f =
         let next : octet + 16 * k + 16 ≡ octet + 16 * (k + 1) = omega arith in
-        omega (arith, u (suc m) (omega (arith, f)), until-go m l (octet + 16 * k) e, ap (λ (i : ℕ). untilSystem m (drop i l)) next)
+        let rest : drop 16 (drop (octet + 16 * k) l) ≡ drop (octet + 16 * (k + 1)) l = drop-drop 16 (octet + 16 * k) l ∙ ap (λ (i : ℕ). drop i l) next in
+        omega (arith, u (suc m) (omega (arith, f)), until-go m (drop (octet + 16 * k) l) (kind-not l (octet + 16 * k) e), ap (untilSystem m) rest)
 
     pub until-end : k ≡ n → 16 * n ≡ untilSystem n (drop octet l)
     unfolding untilSystem

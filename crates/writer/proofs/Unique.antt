@@ -2,7 +2,7 @@
 -- A message with reserved bits 0 and its subset in mask order is its own canonical form, so its bits are the list's rendering; the filling and the pages follow from its length.
 use Prim.Native.Nat.{ℕ, _*_, _-_, _≤_}
 use native.Mathlib.Omega.{arith}
-use mathlib.Core.Bool.{Bool, true, false}
+use mathlib.Core.Bool.{Bool, false}
 use mathlib.Core.List.{List, _++_, map}
 use mathlib.Core.Option.{Option, none, some}
 use mathlib.Core.Path.{_≡_, refl, sym, ap, ap₂, _∙_}
@@ -12,13 +12,13 @@ use Rattle.mt1.specs.Mt1.{Lent, lentFor, ids}
 use Rattle.mt1.specs.Encode.{encode}
 use Rattle.mt1.specs.Valid.{SubsetsOk, BlockOk, IfFlag, Ok}
 use Rattle.mt1.specs.Records.{part, systemsIn}
+use Rattle.mt1.proofs.Several.{if-flag}
 use Rattle.mt1.proofs.Blocks.{Masked}
-use Rattle.mt1.proofs.Inverted.{inverse, ok-masked}
+use Rattle.mt1.proofs.Inverted.{inverse, ok-masked, records-used, end-within}
 use Rattle.writer.specs.Writer.{maskReserved, subsetIds, among, turns, SoWritten}
 use Rattle.writer.specs.Rendering.{rendered}
-use Rattle.writer.proofs.Canonical.{ordered, canonicalHeader, canonicalMask, canonicalSubset, canonical, by-order, ids-ordered}
+use Rattle.writer.proofs.Canonical.{ordered, canonicalHeader, canonicalMask, canonicalSubset, changed, canonical, by-order, ids-ordered}
 use Rattle.writer.proofs.Rendered.{rendered-records}
-use Rattle.writer.proofs.Written.{records-used, end-within}
 
 -- ---- a message that is its own canonical form
 header-settled : (h : Header) → h .reserved ≡ 0 → canonicalHeader h ≡ h
@@ -35,32 +35,16 @@ order-settled = by-order (λ l r. map (λ s. s .id) l ≡ map (λ s. s .id) r �
 
 subset-settled : (ss : List System) → Masked ss → (flag : Bool) (sub : Option (Block (List Subset))) → IfFlag flag (BlockOk (SubsetsOk ss)) sub
     → subsetIds sub ≡ among (ids ss) (subsetIds sub) → part (canonicalSubset ss) sub ≡ sub
-subset-settled ss k flag none o e = refl
-subset-settled ss k true (some b) o e =
-    ap (λ (l : List Subset). some (record { interval = b .interval; body = l })) (order-settled ss (b .body) k (o .body) (e ∙ sym (ids-ordered ss (b .body))))
-subset-settled ss k false (some b) o e = absurd o
+subset-settled ss k =
+    if-flag (BlockOk (SubsetsOk ss)) (λ _ x. subsetIds x ≡ among (ids ss) (subsetIds x) → part (canonicalSubset ss) x ≡ x)
+    (λ b o e. ap (λ (l : List Subset). some (record { interval = b .interval; body = l })) (order-settled ss (b .body) k (o .body) (e ∙ sym (ids-ordered ss (b .body)))))
+    (λ e. refl)
 
 canonical-same : (lent : Option Mask) (ss : List System) (m : Message) → Ok lent ss m → Masked ss
     → m .header .reserved ≡ 0 → maskReserved (m .mask) ≡ 0 → subsetIds (m .subset) ≡ among (ids ss) (subsetIds (m .subset)) → canonical ss m ≡ m
 canonical-same lent ss m o k h r e =
-    ap₂ (λ (x : Header) (y : Option Mask). record {
-      header = x;
-      mask = y;
-      orbits = m .orbits;
-      clocks = m .clocks;
-      subset = part (canonicalSubset ss) (m .subset);
-      codes = m .codes;
-      phases = m .phases;
-    }) (header-settled (m .header) h) (mask-settled (m .mask) r)
-    ∙ ap (λ (x : Option (Block (List Subset))). record {
-      header = m .header;
-      mask = m .mask;
-      orbits = m .orbits;
-      clocks = m .clocks;
-      subset = x;
-      codes = m .codes;
-      phases = m .phases;
-    }) (subset-settled ss k (hasSubset (m .header)) (m .subset) (o .subset) e)
+    ap₂ (λ (x : Header) (y : Option Mask). changed m x y (part (canonicalSubset ss) (m .subset))) (header-settled (m .header) h) (mask-settled (m .mask) r)
+    ∙ ap (changed m (m .header) (m .mask)) (subset-settled ss k (hasSubset (m .header)) (m .subset) (o .subset) e)
 
 -- ---- the bits
 module _ (lent : Lent) (l : List ℕ) where

@@ -1,63 +1,45 @@
 -- Writing and reading gives the same records, and reading and writing again gives the same octets for a message so written.
 -- The octets are the bits that are so written, which read to the list; the list passes the checks as its message does, and of it one bit string is written.
-use Prim.Native.Nat.{ℕ, _+_, _*_, _/_, _%_, _≤_}
+use Prim.Native.Nat.{ℕ, _*_, _/_, _%_, _≤_}
 use native.Mathlib.Omega.{arith}
 use mathlib.Core.Bool.{Bool, true, false, not, _&&_, and-false, cond}
 use mathlib.Core.List.{List, []}
 use mathlib.Core.Option.{Option, none, some}
 use mathlib.Core.Path.{_≡_, refl, sym, ap, ap₂, subst, _∙_}
-use lib.ListN.{length, take, drop, length-append}
-use lib.Seq.{take-at}
-use borrow.Author.Tests.{le-leb, lt-ltb, eq-eqb}
+use lib.ListN.{length, take}
+use borrow.Author.Tests.{lt-ltb, eq-eqb}
 use Rattle.lists.specs.Lists.{laid}
+use Rattle.lists.proofs.Laid.{laid-front}
 use Rattle.bits.specs.Bits.{bitsOf, octetsOf}
 use Rattle.bits.proofs.Octets.{length-bitsOf, bits-of-octets}
-use Rattle.pagecode.specs.Encode.{arePages}
 use Rattle.refusal.specs.declared.Refusal.{Refusal}
 use Rattle.mt1.specs.Parse.{Outcome, got}
 use Rattle.mt1.specs.Message.{Header, hasMask, System, Mask, Message}
-use Rattle.mt1.specs.Mt1.{needsMask, used, Lent, lentFor, isNone, message}
-use Rattle.mt1.specs.Valid.{HeaderOk, MaskOk, IfFlag}
-use Rattle.mt1.specs.Records.{headerRecord, systemRecords, records}
+use Rattle.mt1.specs.Mt1.{needsMask, used, Lent, lentFor, isNone}
+use Rattle.mt1.specs.Valid.{MaskOk, IfFlag}
+use Rattle.mt1.specs.Records.{headerRecord, records}
 use Rattle.mt1.proofs.Combinators.{some-none}
-use Rattle.mt1.proofs.Counts.{length-header}
-use Rattle.mt1.proofs.Inverted.{inverse}
+use Rattle.mt1.proofs.Inverted.{inverse, records-used, end-within}
 use Rattle.reader.specs.declared.reading.ReadAnswer.{ReadAnswer}
 use Rattle.reader.specs.declared.reading.ReadAnswer.the-variants.{Records}
 use Rattle.reader.specs.Reader.{reading, answerOf, bufferOf}
+use Rattle.reader.proofs.Answers.{pages}
 use Rattle.writer.specs.declared.writing.WriteAnswer.the-variants.{Size}
 use Rattle.writer.specs.Writer.{Call, areRecords, headerOf, isHeader, lacksMask, check, ReadsTo, SoWritten, Writes}
 use Rattle.writer.specs.Rendering.{rendered}
 use Rattle.writer.specs.WayBack.{ReadsAs, WayBack}
 use Rattle.writer.proofs.Canonical.{canonicalHeader}
-use Rattle.writer.proofs.Headed.{flags-are}
+use Rattle.writer.proofs.Headed.{header-is}
 use Rattle.writer.proofs.HeaderRecords.{message-header}
-use Rattle.writer.proofs.Written.{records-used, end-within, records-few, size-refused, judged-size}
+use Rattle.writer.proofs.Written.{records-few, size-refused, judged-size}
 use Rattle.writer.proofs.Unique.{written-rendered}
 use Rattle.writer.proofs.Settled.{one-writing}
 
--- ---- octets of whole pages
-are-pages : (k n : ℕ) → 1 ≤ k → k ≤ 32 → n ≡ 53 * k → arePages (n / 53) n ≡ true
-unfolding arePages
-are-pages k n a b e =
-    let q : n / 53 ≡ k = omega (arith, e) in
-    rw q (ap₂ _&&_ (le-leb 1 k a) (ap₂ _&&_ (le-leb k 32 b) (eq-eqb n (k * 53) (omega (arith, e)))))
-
--- ---- the header record of a message's records, and its header
-module _ (m : Message) (ss : List System) where
-  some-records : 16 ≤ length (records ss m)
-  unfolding records
-  some-records = omega (arith, length-append (headerRecord m) (systemRecords m 0 ss), length-header m)
-
-  header-is : HeaderOk (m .header) → headerOf (records ss m) ≡ canonicalHeader (m .header)
-  unfolding headerOf records headerRecord
-  header-is o =
-      let e : 256 * (m .header .time / 256) + m .header .time % 256 ≡ m .header .time = omega arith in
-      ap₂ (λ (t : ℕ) (fs : List Bool). record { time = t; flags = fs; reserved = 0; maskId = m .header .maskId; iodSet = m .header .iodSet }) e (flags-are m ss o)
-
-  first-passes : isHeader (records ss m) ≡ isHeader (headerRecord m)
-  unfolding isHeader headerOf records headerRecord
-  first-passes = refl
+-- ---- the checks
+-- the first record alone is looked at
+first-passes : (m : Message) (ss : List System) → isHeader (records ss m) ≡ isHeader (headerRecord m)
+unfolding isHeader headerOf records headerRecord
+first-passes m ss = refl
 
 -- a message that has the systems of its mask lacks none
 lacks-none : (lent : Lent) (h : Header) (own : Option Mask) (ss : List System) → IfFlag (hasMask h) MaskOk own → used (lentFor lent (h .maskId)) h own ≡ some ss
@@ -85,7 +67,7 @@ module _ (lent : Lent) (l : List ℕ) (k : ℕ) (bs : List Bool) (w : SoWritten 
 
   octets-read : reading (record { octets = octetsOf bs; lent = lent; room = 21808 }) ≡ got (w .m) (w .end)
   unfolding reading
-  octets-read = rw (are-pages k (length (octetsOf bs)) (w .size .0) (w .size .1) octets-length, octets-bits) (w .reads)
+  octets-read = rw (pages (length (octetsOf bs)) (omega (arith, octets-length, w .size .0)) (omega (arith, octets-length, w .size .1)) (omega (arith, octets-length)), octets-bits) (w .reads)
 
   reads-back : (room room′ : List ℕ) (answer : ReadAnswer) → ReadsAs lent (octetsOf bs) room answer room′ → (answer ≡ Records (length l / 16)) × (room′ ≡ laid room 0 l)
   reads-back room room′ answer r = (
@@ -111,7 +93,8 @@ module _ (lent : Lent) (l : List ℕ) (k : ℕ) (bs : List Bool) (w : SoWritten 
       let e : l ≡ records ss (w .m) = sym (w .records) ∙ records-used lent ss (w .m) (x .valid .used) in
       let p : isHeader l ≡ true = ap isHeader e ∙ first-passes (w .m) ss ∙ message-header (lentFor lent (w .m .header .maskId)) ss (w .m) (x .valid) in
       let h : headerOf l ≡ canonicalHeader (w .m .header) = ap headerOf e ∙ header-is (w .m) ss (x .valid .header) in
-      let n : areRecords (length l) ≡ true = ap₂ _&&_ (lt-ltb 0 (length l) (omega (arith, ap length e, some-records (w .m) ss))) (eq-eqb (length l % 16) 0 (records-few lent bs l reads-to .0)) in
+      let few = records-few lent bs l reads-to in
+      let n : areRecords (length l) ≡ true = ap₂ _&&_ (lt-ltb 0 (length l) (few .2)) (eq-eqb (length l % 16) 0 (few .0)) in
       let y : lacksMask lent (headerOf l) ≡ false = ap (lacksMask lent) h ∙ lacks-none lent (w .m .header) (w .m .mask) ss (x .valid .mask) (x .valid .used) in
       rw (n, p, y)
 
@@ -130,15 +113,11 @@ passed c before after k w = pick (check c) refl
     pick none e = e
     pick (some r) e = absurd (size-refused (w .checks r e))
 
-written-front : (before l : List ℕ) (n : ℕ) → length l ≡ n → take n (laid before 0 l) ≡ l
-unfolding laid
-written-front before l n e = take-at l (drop (0 + length l) before) n e
-
 pub way-back : (lent : Lent) → WayBack lent
 way-back lent = record {
   write-then-read = λ l before after k w room room′ answer r.
       let (bs, o, e) = w .judged (passed _ before after k w) .size k refl in
-      let f : take (53 * k) after ≡ octetsOf bs = ap (take (53 * k)) e ∙ written-front before (octetsOf bs) (53 * k) (octets-length lent l k bs o) in
+      let f : take (53 * k) after ≡ octetsOf bs = ap (take (53 * k)) e ∙ laid-front before (octetsOf bs) (53 * k) (octets-length lent l k bs o) in
       reads-back lent l k bs o room room′ answer (subst (λ (x : List ℕ). ReadsAs lent x room answer room′) f r);
   read-then-write = λ l k bs o. (
     reads-back lent l k bs o,

@@ -1,18 +1,16 @@
 -- A list that some bit string reads to is rendered as bits that read to it, with reserved bits 0 and the subset in mask order, and these are as long.
 -- Such a list is the records of a valid message; its rendering is the encoding of the message in canonical form, which has the same records.
-use Prim.Native.Nat.{ℕ, zero, suc, _+_, _*_, _-_, _/_, _%_, _≤_, _<_}
-use native.Mathlib.Nat.{zero-add}
+use Prim.Native.Nat.{ℕ, _+_, _*_, _-_, _/_, _%_, _≤_, _<_}
 use native.Mathlib.Omega.{arith}
-use mathlib.Core.Bool.{Bool, false, not}
-use mathlib.Core.List.{List, [], _∷_, _++_, append-nil, append-assoc}
+use mathlib.Core.Bool.{Bool, false}
+use mathlib.Core.List.{List, [], _++_}
 use mathlib.Core.Logic.{inl, inr}
 use mathlib.Core.Option.{Option, none, some}
-use mathlib.Core.Path.{_≡_, refl, sym, ap, ap₂, subst, _∙_}
-use lib.ListN.{length, take, drop, length-append, length-drop, length-take, take-append-drop}
-use lib.Seq.{take-append-seam, drop-append-seam, length-take-le}
-use Rattle.lists.specs.Lists.{laid, Every}
-use Rattle.bits.specs.Bits.{bits, octetsOf}
-use Rattle.bits.proofs.Values.{length-bits}
+use mathlib.Core.Path.{_≡_, refl, sym, ap, subst, _∙_}
+use lib.ListN.{length, length-append}
+use lib.Seq.{drop-append-seam}
+use Rattle.lists.specs.Lists.{laid}
+use Rattle.bits.specs.Bits.{octetsOf}
 use Rattle.refusal.specs.declared.Refusal.{Refusal}
 use Rattle.refusal.specs.declared.Refusal.the-variants.{Form, Long}
 use Rattle.writer.specs.declared.writing.WriteAnswer.the-variants.{Size, Refused}
@@ -20,14 +18,11 @@ use Rattle.mt1.specs.Parse.{got}
 use Rattle.mt1.specs.Message.{System, Mask, Message}
 use Rattle.mt1.specs.Mt1.{Lent, lentFor, used, ids, message}
 use Rattle.mt1.specs.Encode.{encode}
-use Rattle.mt1.specs.Valid.{Ok, SystemOk}
-use Rattle.mt1.specs.Inverse.{Encoding}
-use Rattle.mt1.specs.Records.{part, records, systemsIn, recordsOf, recordCount}
-use Rattle.mt1.proofs.Blocks.{Masked}
+use Rattle.mt1.specs.Records.{part, records, systemsIn, recordsOf}
 use Rattle.mt1.proofs.Counts.{length-records, room-for-records}
-use Rattle.mt1.proofs.Inverted.{inverse, ok-masked}
+use Rattle.mt1.proofs.Inverted.{inverse, ok-masked, records-used, end-within}
 use Rattle.writer.specs.Writer.{ReadsTo, SomeReads, AnyLength, Within, maskReserved, subsetIds, among, maskIds, turns, SoWritten, Judged}
-use Rattle.writer.specs.Rendering.{rendered, renderedOf, headerPart, maskPart, blockPart, both, clocksPart, subsetsPart}
+use Rattle.writer.specs.Rendering.{rendered, renderedOf, headerPart}
 use Rattle.writer.proofs.Canonical.{canonical, canonicalMask, canonical-ok, canonical-records, canonical-length, canonical-order}
 use Rattle.writer.proofs.Rendered.{rendered-records}
 use Rattle.writer.proofs.Filling.{length-turns}
@@ -45,10 +40,6 @@ pub record Again (lent : Lent) (l : List ℕ) (end : ℕ) (c : Message) : Type 0
 reserved-none : (k : Option Mask) → maskReserved (part canonicalMask k) ≡ 0
 reserved-none none = refl
 reserved-none (some k) = refl
-
-pub records-used : (lent : Lent) (ss : List System) (m : Message) → used (lentFor lent (m .header .maskId)) (m .header) (m .mask) ≡ some ss → recordsOf lent m ≡ records ss m
-unfolding recordsOf
-records-used lent ss m e = ap (λ (o : Option (List System)). records (systemsIn o) m) e
 
 pub again : (lent : Lent) (bs : List Bool) (m : Message) (end : ℕ) → message lent bs 0 ≡ got m end → (c : Message) × Again lent (recordsOf lent m) end c
 again lent bs m end e =
@@ -71,25 +62,20 @@ again lent bs m end e =
       },
     )
 
--- what is read is no longer than the bit string
-pub end-within : (lent : Lent) (bs : List Bool) (m : Message) (end : ℕ) → message lent bs 0 ≡ got m end → end ≤ length bs
-end-within lent bs m end e =
-    let (ss, x) = inverse lent .again bs m end e in
-    omega (arith, x .ends, ap length (x .bits), length-append (encode ss m) (drop end bs))
-
--- the records of a message are whole, and no more than 1,363
-pub records-few : (lent : Lent) (bs : List Bool) (l : List ℕ) → ReadsTo lent bs l → (length l % 16 ≡ 0) × (length l ≤ 21808)
+-- the records of a message are whole, no more than 1,363, and not none
+pub records-few : (lent : Lent) (bs : List Bool) (l : List ℕ) → ReadsTo lent bs l → (length l % 16 ≡ 0) × (length l ≤ 21808) × (0 < length l)
 records-few lent bs l t =
     let (ss, x) = inverse lent .again bs (t .m) (t .end) (t .reads) in
     let k = ok-masked lent ss (t .m) (x .valid) in
     let e : records ss (t .m) ≡ l = sym (records-used lent ss (t .m) (x .valid .used)) ∙ t .records in
-    (omega (arith, ap length e, length-records (t .m) ss (k .systems)), omega (arith, ap length e, room-for-records (t .m) ss (k .few) (k .systems)))
+    let n = length-records (t .m) ss (k .systems) in
+    (omega (arith, ap length e, n), omega (arith, ap length e, room-for-records (t .m) ss (k .few) (k .systems)), omega (arith, ap length e, n))
 
 -- ---- lengths
 -- a header has 32 bits
 pub header-long : (l : List ℕ) → 32 ≤ length (rendered l)
 unfolding rendered renderedOf headerPart
-header-long l = simp (length-append, length-bits) omega arith
+header-long l = simp length-append omega arith
 
 -- ---- answers differ
 pub size-refused : {k : ℕ} {r : Refusal} → Size k ≡ Refused r → ⊥
@@ -110,7 +96,7 @@ module _ (lent : Lent) (l : List ℕ) where
   renders : (bs : List Bool) (t : ReadsTo lent bs l) → (c : Message) × Again lent l (t .end) c
   renders bs t = subst (λ (x : List ℕ). (c : Message) × Again lent x (t .end) c) (t .records) (again lent bs (t .m) (t .end) (t .reads))
 
-  pub reads-rendered : (rest : List Bool) → SomeReads lent l AnyLength → ReadsTo lent (rendered l ++ rest) l
+  reads-rendered : (rest : List Bool) → SomeReads lent l AnyLength → ReadsTo lent (rendered l ++ rest) l
   reads-rendered rest (bs, u, t) = let (c, a) = renders bs t in record { m = c; end = t .end; reads = a .reads rest; records = a .records }
 
   within-rendered : SomeReads lent l Within → length (rendered l) ≤ 13568

@@ -58,10 +58,10 @@ fn reads_back(octets: &[u8], mask_id: u64, mask: &[u8], records: &[u8]) -> bool
         return false;
     };
     let m = records.len();
-    if n != (m / 16) as u64 {
-        return false;
+    if n == (m / 16) as u64 {
+        return check::same(&again[..m], records);
     }
-    check::same(&again[..m], records)
+    false
 }
 
 // The message of whole records, whose header is one that a message has, and whose mask is there.

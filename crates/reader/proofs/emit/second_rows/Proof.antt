@@ -2,7 +2,7 @@
 use native.Mathlib.Omega.{arith}
 use borrow.Author.Needs.{needs}
 use Rattle.reader.proofs.RowFields.{orbit-room}
-use Rattle.reader.proofs.RowsStanding.{iod-le}
+use Rattle.mt1.proofs.Blocks.{iod-le}
 use Rattle.reader.proofs.emit.second_rows.Statement.{statement}
 use Rattle.reader.proofs.emit.second_rows.Tie as tie
 

@@ -1,7 +1,6 @@
 -- Another ID lends nothing; else the mask is read, or is not.
 use native.Mathlib.Omega.{arith}
 use mathlib.Core.Path.{sym, ap}
-use lib.Dec.{eqb}
 use borrow.Author.Needs.{needs}
 use Rattle.bits.specs.Bits.{bitsOf}
 use Rattle.mt1.specs.Mt1.{mask, Lent, isNone}

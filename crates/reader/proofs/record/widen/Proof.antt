@@ -1,6 +1,6 @@
 -- By the test on the field's value, as `widened` has it.
 use borrow.Author.Needs.{needs}
-use Rattle.reader.proofs.RowValues.{widened-low, widened-high}
+use Rattle.mt1.proofs.Signs.{widened-low, widened-high}
 use Rattle.reader.proofs.record.widen.Statement.{statement}
 use Rattle.reader.proofs.record.widen.Tie as tie
 

@@ -6,12 +6,13 @@ use Prim.Native.Nat.{_+_}
 use borrow.Author.Needs.{needs}
 use borrow.Author.Tests.{not-true, not-false}
 use Rattle.bits.specs.Bits.{num, bits}
+use Rattle.bits.proofs.Values.{num-few}
 use Rattle.mt1.specs.Message.{hasMask}
 use Rattle.writer.specs.declared.part.Part.the-variants.{Cell}
 use Rattle.writer.specs.Writer.{headerOf}
 use Rattle.writer.specs.Rendering.{isKind, most, systemPart, maskPart}
 use Rattle.writer.proofs.Appending.{appends-join}
-use Rattle.writer.proofs.Placing.{appends-is, Placed, placed-first, placed-then, skipped, kept, bits-few, num-few, system-few}
+use Rattle.writer.proofs.Placing.{appends-is, Placed, placed-first, placed-then, skipped, kept, bits-few, system-few}
 use Rattle.writer.proofs.block.append_mask.Statement.{statement}
 use Rattle.writer.proofs.block.append_mask.Tie as tie
 

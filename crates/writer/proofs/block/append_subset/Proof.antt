@@ -8,11 +8,12 @@ use borrow.Author.Needs.{needs}
 use borrow.Author.Tests.{not-true, not-false}
 use lib.ListN.{getD}
 use Rattle.bits.specs.Bits.{num, bits}
+use Rattle.bits.proofs.Values.{num-few}
 use Rattle.writer.specs.declared.part.Part.the-variants.{Chosen, SubsetClock}
 use Rattle.writer.specs.Writer.{headerOf}
 use Rattle.writer.specs.Rendering.{inSubset, most, subsetsPart, blockPart}
 use Rattle.writer.proofs.Appending.{appends-join}
-use Rattle.writer.proofs.Placing.{appends-is, Placed, placed-first, placed-then, skipped, kept, bits-few, num-few, subset-few}
+use Rattle.writer.proofs.Placing.{appends-is, Placed, placed-first, placed-then, skipped, kept, bits-few, subset-few}
 use Rattle.writer.proofs.block.append_subset.Statement.{statement}
 use Rattle.writer.proofs.block.append_subset.Tie as tie
 

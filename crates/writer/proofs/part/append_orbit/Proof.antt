@@ -6,7 +6,7 @@ use borrow.Author.Needs.{needs}
 use Rattle.writer.specs.declared.part.Part.the-variants.{Orbit}
 use Rattle.bits.proofs.Values.{length-bits}
 use Rattle.writer.proofs.Appending.{appends-none, appends-join}
-use Rattle.writer.proofs.Weights.{iod-most}
+use Rattle.mt1.proofs.Blocks.{iod-le}
 use Rattle.writer.proofs.RecordFields.{part-none, orbit-bits}
 use Rattle.writer.proofs.part.append_orbit.Statement.{statement}
 use Rattle.writer.proofs.part.append_orbit.Tie as tie
@@ -36,7 +36,7 @@ append-requires : tie.Need-append-requires
 append-requires c κs =
     let k = c .before .before .before .before .before .before .before .before in
     let w = c .before .iod-width in
-    (k .pre .2, omega (arith, w .ensures, iod-most (getD (k .args .system .now) 2 0)), omega (arith, w .ensures, iod-most (getD (k .args .system .now) 2 0), k .pre .3))
+    (k .pre .2, omega (arith, w .ensures, iod-le (getD (k .args .system .now) 2 0)), omega (arith, w .ensures, iod-le (getD (k .args .system .now) 2 0), k .pre .3))
 
 add-pair-at-2 : tie.Need-add-pair-at-2
 add-pair-at-2 c = search needs
@@ -49,7 +49,7 @@ append-requires-2 c κs =
     let k = c .before .before .before .before .before .before .before .before .before .before .before .before .before in
     let p = c .before .before .before .before .append .ensures in
     let w = c .before .before .before .before .before .before .iod-width in
-    (p .room ∙ k .pre .2, omega arith, omega (arith, p .ends, length-bits (w .result) (c .before .before .before .before .before .pair-at .result), w .ensures, iod-most (getD (k .args .system .now) 2 0), k .pre .3))
+    (p .room ∙ k .pre .2, omega arith, omega (arith, p .ends, length-bits (w .result) (c .before .before .before .before .before .pair-at .result), w .ensures, iod-le (getD (k .args .system .now) 2 0), k .pre .3))
 
 add-pair-at-3 : tie.Need-add-pair-at-3
 add-pair-at-3 c = search needs
@@ -65,7 +65,7 @@ append-requires-3 c κs =
     let w = c .before .before .before .before .before .before .before .before .before .before .before .iod-width in (
       q .room ∙ p .room ∙ k .pre .2,
       omega arith,
-      omega (arith, p .ends, q .ends, length-bits (w .result) (c .before .before .before .before .before .before .before .before .before .before .pair-at .result), length-bits 13 (c .before .before .before .before .before .pair-at2 .result), w .ensures, iod-most (getD (k .args .system .now) 2 0), k .pre .3),
+      omega (arith, p .ends, q .ends, length-bits (w .result) (c .before .before .before .before .before .before .before .before .before .before .pair-at .result), length-bits 13 (c .before .before .before .before .before .pair-at2 .result), w .ensures, iod-le (getD (k .args .system .now) 2 0), k .pre .3),
     )
 
 add-pair-at-4 : tie.Need-add-pair-at-4
@@ -92,7 +92,7 @@ append-requires-4 c κs =
         length-bits 13 (c .before .before .before .before .before .before .before .before .before .before .pair-at2 .result),
         length-bits 12 (c .before .before .before .before .before .pair-at3 .result),
         w .ensures,
-        iod-most (getD (k .args .system .now) 2 0),
+        iod-le (getD (k .args .system .now) 2 0),
         k .pre .3,
       ),
     )

@@ -3,8 +3,8 @@ use native.Mathlib.Omega.{arith}
 use mathlib.Core.Path.{_∙_}
 use Prim.Native.Nat.{_+_}
 use borrow.Author.Needs.{needs}
-use Rattle.writer.specs.declared.part.Part.the-variants.{Orbit, Code}
-use Rattle.writer.specs.Rendering.{both, clocksPart, subsetsPart, renderedOf}
+use Rattle.writer.specs.declared.part.Part.the-variants.{Orbit, Code, Phase}
+use Rattle.writer.specs.Rendering.{headerPart, maskPart, blockPart, both, clocksPart, subsetsPart, renderedOf}
 use Rattle.writer.proofs.Appending.{appends-join}
 use Rattle.writer.proofs.Placing.{Placed, placed-first, placed-then, maskMost, bothMost, clocksMost, subsetsMost, header-few, mask-few, block-few, both-few, clocks-few, subsets-few, toMask, toOrbits, toClocks, toSubset, toCodes, all-fit}
 use Rattle.writer.proofs.render.render_systems.Statement.{statement}
@@ -50,7 +50,7 @@ orbits-placed c =
     let i = start (header (mask c)) .args in
     let a = i .a .now in
     let b = i .b .now in
-    placed-then (4 + bothMost Orbit a b) (mask-placed (mask c)) (c .append-block .ensures) (block-few (i .records .now) 1 (both Orbit a b) (bothMost Orbit a b) (both-few Orbit a b))
+    placed-then {bs = blockPart (i .records .now) 1 (both Orbit a b)} (4 + bothMost Orbit a b) (mask-placed (mask c)) (c .append-block .ensures) (block-few (i .records .now) 1 (both Orbit a b) (bothMost Orbit a b) (both-few Orbit a b))
 
 clocks-placed : (c : tie.After-append-clocks) → let i = start (header (mask (orbits c))) .args in
     Placed (i .out .now) 0 (c .append-clocks .last .1 .1 .1 .0) (c .append-clocks .result) (toClocks (i .a .now) (i .b .now))
@@ -74,7 +74,7 @@ codes-placed c =
     let i = start (header (mask (orbits (clocks (subset c))))) .args in
     let a = i .a .now in
     let b = i .b .now in
-    placed-then (4 + bothMost Code a b) (subset-placed (subset c)) (c .append-block2 .ensures) (block-few (i .records .now) 4 (both Code a b) (bothMost Code a b) (both-few Code a b))
+    placed-then {bs = blockPart (i .records .now) 4 (both Code a b)} (4 + bothMost Code a b) (subset-placed (subset c)) (c .append-block2 .ensures) (block-few (i .records .now) 4 (both Code a b) (bothMost Code a b) (both-few Code a b))
 
 append-header-requires : tie.Need-append-header-requires
 append-header-requires c κs = search needs
@@ -133,12 +133,16 @@ returns c =
     let o = orbits k in
     let m = mask o in
     let h = header m in
-    appends-join (h .append-header .ensures)
-    (appends-join (m .append-mask .ensures)
-    (appends-join (o .append-block .ensures)
-    (appends-join (k .append-clocks .ensures)
-    (appends-join (s .append-subset .ensures)
-    (appends-join (x .append-block2 .ensures) (c .before .before .append-block3 .ensures))))))
+    let i = start h .args in
+    let l = i .records .now in
+    let a = i .a .now in
+    let b = i .b .now in
+    appends-join {xs = headerPart l} (h .append-header .ensures)
+    (appends-join {xs = maskPart l a b} (m .append-mask .ensures)
+    (appends-join {xs = blockPart l 1 (both Orbit a b)} (o .append-block .ensures)
+    (appends-join {xs = blockPart l 2 (clocksPart a b)} (k .append-clocks .ensures)
+    (appends-join {xs = blockPart l 3 (subsetsPart a b)} (s .append-subset .ensures)
+    (appends-join {xs = blockPart l 4 (both Code a b)} {ys = blockPart l 5 (both Phase a b)} (x .append-block2 .ensures) (c .before .before .append-block3 .ensures))))))
 
 pub render-systems-spec : {M : Type 1} → statement M
 render-systems-spec =

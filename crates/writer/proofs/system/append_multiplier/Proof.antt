@@ -7,7 +7,8 @@ use borrow.Author.Tests.{not-true, not-false}
 use lib.ListN.{getD}
 use Rattle.bits.specs.Bits.{bits}
 use Rattle.writer.specs.Rendering.{isKind, multiplierPart}
-use Rattle.writer.proofs.Placing.{skipped, kept, system-long}
+use Rattle.writer.proofs.RecordFields.{kind-long}
+use Rattle.writer.proofs.Placing.{skipped, kept}
 use Rattle.writer.proofs.system.append_multiplier.Statement.{statement}
 use Rattle.writer.proofs.system.append_multiplier.Tie as tie
 
@@ -26,7 +27,7 @@ returns c =
 
 shared-slice-read-append : tie.Need-shared-slice-read-append
 shared-slice-read-append c =
-    omega (arith, system-long (c .before .before .before .before .before .before .args .system .now) (there (c .before .before)) (c .before .before .before .before .before .before .pre .0))
+    omega (arith, kind-long 1 (c .before .before .before .before .before .before .args .system .now) (there (c .before .before)) (c .before .before .before .before .before .before .pre .0 .whole))
 
 cast-append : tie.Need-cast-append
 cast-append c = omega (arith, c .shared-slice-known2 .given 5)

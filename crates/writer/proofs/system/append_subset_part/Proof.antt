@@ -14,7 +14,8 @@ use Rattle.writer.specs.declared.part.Part.the-variants.{Chosen, SubsetC
 use Rattle.writer.specs.Rendering.{isKind, inSubset, gathered, most, subsetPart}
 use Rattle.writer.proofs.Appending.{appends-join}
 use Rattle.writer.proofs.Weights.{gathered-most}
-use Rattle.writer.proofs.Placing.{Placed, placed-first, placed-then, skipped, kept, bits-few, system-long}
+use Rattle.writer.proofs.RecordFields.{kind-long}
+use Rattle.writer.proofs.Placing.{Placed, placed-first, placed-then, skipped, kept, bits-few}
 use Rattle.writer.proofs.system.append_subset_part.Statement.{statement}
 use Rattle.writer.proofs.system.append_subset_part.Tie as tie
 
@@ -24,7 +25,7 @@ there c = sym (c .before .is-in-subset .ensures) ∙ not-false (c .before .is-in
 long : (c : tie.Else1) → 16 ≤ length (c .before .before .before .before .args .system .now)
 long c =
     let s = c .before .before .before .before .args .system .now in
-    system-long s (and-left (isKind 2 s) (not (eqb (getD s 6 0) 255)) (there c)) (c .before .before .before .before .pre .0)
+    kind-long 1 s (and-left (isKind 2 s) (not (eqb (getD s 6 0) 255)) (there c)) (c .before .before .before .before .pre .0 .whole)
 
 -- back to the start from each call
 abbrev start : tie.After-append → tie.Start

@@ -12,7 +12,8 @@ use Rattle.bits.specs.Bits.{bits, bitsOf, numberAt}
 use Rattle.writer.specs.declared.part.Part.the-variants.{Cell}
 use Rattle.writer.specs.Rendering.{isKind, gathered, most, systemPart}
 use Rattle.writer.proofs.Appending.{appends-join}
-use Rattle.writer.proofs.Placing.{appends-is, Placed, placed-first, placed-then, skipped, kept, bits-few, cells-few, system-long}
+use Rattle.writer.proofs.RecordFields.{kind-long}
+use Rattle.writer.proofs.Placing.{appends-is, Placed, placed-first, placed-then, skipped, kept, bits-few, cells-few}
 use Rattle.writer.proofs.system.append_system.Statement.{statement}
 use Rattle.writer.proofs.system.append_system.Tie as tie
 
@@ -24,7 +25,7 @@ abbrev start : tie.After-append → tie.Start
 start c = c .before .before .before .before .before .before .before
 
 long : (c : tie.After-append) → 16 ≤ length (start c .args .system .now)
-long c = system-long (start c .args .system .now) (there (c .before .before .before)) (start c .pre .0)
+long c = kind-long 1 (start c .args .system .now) (there (c .before .before .before)) (start c .pre .0 .whole)
 
 abbrev id : tie.After-append2 → tie.After-append
 id c = c .before .before .before .before .before
@@ -64,7 +65,7 @@ returns c =
 
 shared-slice-read-append : tie.Need-shared-slice-read-append
 shared-slice-read-append c =
-    omega (arith, system-long (c .before .before .before .before .before .before .args .system .now) (there (c .before .before)) (c .before .before .before .before .before .before .pre .0))
+    omega (arith, kind-long 1 (c .before .before .before .before .before .before .args .system .now) (there (c .before .before)) (c .before .before .before .before .before .before .pre .0 .whole))
 
 cast-append : tie.Need-cast-append
 cast-append c = omega (arith, c .shared-slice-known2 .given 2)

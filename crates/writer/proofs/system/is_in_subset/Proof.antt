@@ -7,7 +7,7 @@ use borrow.Author.Tests.{not-true, not-false}
 use lib.Dec.{eqb}
 use lib.ListN.{getD}
 use Rattle.writer.specs.Rendering.{isKind}
-use Rattle.writer.proofs.Placing.{system-long}
+use Rattle.writer.proofs.RecordFields.{kind-long}
 use Rattle.writer.proofs.system.is_in_subset.Statement.{statement}
 use Rattle.writer.proofs.system.is_in_subset.Tie as tie
 
@@ -23,7 +23,7 @@ returns c =
 
 shared-slice-read-result : tie.Need-shared-slice-read-result
 shared-slice-read-result c =
-    omega (arith, system-long (c .before .before .before .before .args .system .now) (there (c .before)) (c .before .before .before .before .pre))
+    omega (arith, kind-long 1 (c .before .before .before .before .args .system .now) (there (c .before)) (c .before .before .before .before .pre .whole))
 
 returns-2 : tie.Need-returns-2
 returns-2 c =

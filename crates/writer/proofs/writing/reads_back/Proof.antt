@@ -45,11 +45,6 @@ returns c =
     let d = decides (c .before .before .before) in
     (λ e. absurd (true≢false (sym e)), λ t. absurd (d .refused (c .enum-told .given .1) t))
 
-returns-2 : tie.Need-returns-2
-returns-2 c =
-    let d = decides (c .before .before .before .before .before) in
-    (λ e. absurd (true≢false (sym e)), λ t. absurd (d .other (c .before .before .answer .given .1) (c .if1 .taken) t))
-
 array-share-prefix-again : tie.Need-array-share-prefix-again
 array-share-prefix-again c = search needs
 
@@ -61,11 +56,16 @@ slice-aggregate-same c =
 same-requires : tie.Need-same-requires
 same-requires c κs = search needs
 
-returns-3 : tie.Need-returns-3
-returns-3 c =
+returns-2 : tie.Need-returns-2
+returns-2 c =
     let e = c .before .before .before .before in
     let d = decides (e .before .before .before) in
-    (λ t. d .same (e .answer .given .1) (c .before .before .if1 .left) (c .same .ensures .0 t), λ t. c .same .ensures .1 (d .stands t))
+    (λ t. d .same (e .answer .given .1) (c .before .before .if1 .taken) (c .same .ensures .0 t), λ t. c .same .ensures .1 (d .stands t))
+
+returns-3 : tie.Need-returns-3
+returns-3 c =
+    let d = decides (c .before .before .before .before .before) in
+    (λ e. absurd (true≢false (sym e)), λ t. absurd (d .other (c .before .before .answer .given .1) (c .if1 .left) t))
 
 pub reads-back-spec : {M : Type 1} → statement M
 reads-back-spec =
@@ -76,8 +76,8 @@ reads-back-spec =
     enum-known-answer
     enum-told
     returns
-    returns-2
     array-share-prefix-again
     slice-aggregate-same
     same-requires
+    returns-2
     returns-3)
