@@ -6,7 +6,7 @@ use native.Mathlib.Omega.{arith}
 use lib.ListN.{length, take, replicate}
 use borrow.Author.Needs.{needs}
 use Rattle.lists.specs.Lists.{laid}
-use Rattle.lists.proofs.Laid.{laid-none, laid-next, laid-all, laid-here}
+use Rattle.lists.proofs.Laid.{laid-front, laid-none, laid-next, laid-all}
 use Rattle.has_c.proofs.wide_numbers.Statement.{statement}
 use Rattle.has_c.proofs.wide_numbers.Tie as tie
 
@@ -46,7 +46,7 @@ returns : tie.Need-returns Inv-loop μ-loop
 returns c =
     let numbers = c .before .before .args .numbers .now in
     let l = c .before .loop in
-    ap (take (length numbers)) (l .inv .1 ∙ laid-all (replicate 32 0) 0 numbers (l .i) (search needs)) ∙ laid-here (replicate 32 0) 0 numbers (search needs)
+    ap (take (length numbers)) (l .inv .1 ∙ laid-all (replicate 32 0) 0 numbers (l .i) (search needs)) ∙ laid-front (replicate 32 0) numbers (length numbers) refl
 
 pub wide-numbers-spec : {M : Type 1} → statement M
 wide-numbers-spec =
