@@ -1,0 +1,6 @@
+//! Inputs for the comparison, good and damaged, from a fixed seed.
+
+pub mod drives;
+pub mod lists;
+pub mod messages;
+pub mod random;
