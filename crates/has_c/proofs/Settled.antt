@@ -3,14 +3,11 @@
 use Prim.Native.Nat.{ℕ}
 use mathlib.Core.List.{List}
 use mathlib.Core.Path.{_≡_, sym, ap, _∙_}
-use Rattle.pagecode.specs.declared.Answer.{Answer}
 use Rattle.pagecode.specs.Encode.{Encoded}
 use Rattle.pagecode.specs.Solve.{Solved}
 use Rattle.pagecode.proofs.Settled.{one-encoding, one-solution}
-use Rattle.reader.specs.declared.reading.ReadAnswer.{ReadAnswer}
 use Rattle.reader.specs.Reader as reader
 use Rattle.reader.proofs.Settled.{one-reading}
-use Rattle.writer.specs.declared.writing.WriteAnswer.{WriteAnswer}
 use Rattle.writer.specs.Writer as writer
 use Rattle.writer.proofs.Settled.{one-writing}
 use Rattle.has_c.specs.Codes.{Codes, pageCode, readCode, writeCode}
