@@ -61,13 +61,9 @@ impl Collector {
         Collector { timeout, last: 0, places: [const { Place::Free }; PLACES] }
     }
 
-    /// A collector, and TIMEOUT beside it if the time-out is not 1 to 600.
-    pub fn start(timeout: u64) -> (Collector, Result<(), Refusal>) {
-        if (1..=LAST_TIMEOUT).contains(&timeout) {
-            (Collector::fresh(timeout), Ok(()))
-        } else {
-            (Collector::fresh(1), Err(Refusal::Timeout))
-        }
+    /// A fresh collector; TIMEOUT if the time-out is not 1 to 600. The C interface has no collector beside TIMEOUT.
+    pub fn start(timeout: u64) -> Result<Collector, Refusal> {
+        (1..=LAST_TIMEOUT).contains(&timeout).then(|| Collector::fresh(timeout)).ok_or(Refusal::Timeout)
     }
 
     pub fn feed(&mut self, second: u64, page: &[u8], out: &mut [u8]) -> Result<Answer, Refusal> {
@@ -258,8 +254,8 @@ mod tests {
     #[test]
     fn wrong_time_out() {
         for timeout in [0, 601, 1 << 32 | 5] {
-            assert_eq!(Collector::start(timeout), (Collector::fresh(1), Err(Refusal::Timeout)));
+            assert_eq!(Collector::start(timeout), Err(Refusal::Timeout));
         }
-        assert_eq!(Collector::start(600), (Collector::fresh(600), Ok(())));
+        assert_eq!(Collector::start(600), Ok(Collector::fresh(600)));
     }
 }

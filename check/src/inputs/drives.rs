@@ -94,6 +94,19 @@ pub fn whole_messages(random: &mut Random, size: usize) -> Drive {
     Drive { timeout: LAST_TIMEOUT, events }
 }
 
+/// Messages one after another, each page of use: the log has as many octets as it can have.
+pub fn no_page_in_vain(random: &mut Random) -> Drive {
+    let mut events = Vec::new();
+    let first = random.draw() % (LAST_SECOND - 100);
+    // A time-out of 1 s: with each second all places are free again.
+    for second in (first..).take(random.between(1, 12)) {
+        let size = random.pick(&[1, 1, 2, 3, 8, 32]);
+        let sender = sender_of(random, size);
+        events.extend((0..size).map(|i| Event { second, page: sender.encoded(i), out: MOST_OCTETS }));
+    }
+    Drive { timeout: 1, events }
+}
+
 fn sender(random: &mut Random, most: usize) -> Sender {
     let size = random.between(1, most);
     sender_of(random, size)
@@ -120,14 +133,20 @@ impl Sender {
         self.sent > self.numbers.len()
     }
 
+    /// The page of the number in place i.
+    fn encoded(&self, i: usize) -> Vec<u8> {
+        let mut page = vec![0; PAGE_OCTETS];
+        encode(&self.message, self.status, self.number, self.numbers[i] as u64, &mut page).expect("a legal page");
+        page
+    }
+
     /// The next page, or at times one sent before, with another content at times.
     fn page(&mut self, random: &mut Random) -> Vec<u8> {
         let next = self.sent % self.numbers.len();
         let before = next > 0 && random.once_in(6);
         let i = if before { random.below(next) } else { next };
         self.sent += !before as usize;
-        let mut page = vec![0; PAGE_OCTETS];
-        encode(&self.message, self.status, self.number, self.numbers[i] as u64, &mut page).expect("a legal page");
+        let mut page = self.encoded(i);
         if before && random.once_in(3) {
             random.flip(&mut page[3..]);
         }
@@ -148,7 +167,7 @@ fn next_second(random: &mut Random, second: u64, timeout: u64, hurry: usize) -> 
     (second + step).min(LAST_SECOND)
 }
 
-fn damage(random: &mut Random, event: &mut Event) {
+pub fn damage(random: &mut Random, event: &mut Event) {
     match random.below(16) {
         0 => random.flip(&mut event.page[3..]),
         1 => random.flip(&mut event.page[..3]),

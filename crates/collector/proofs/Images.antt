@@ -84,10 +84,10 @@ contents-part (p ∷ ps) (suc j) z e h =
 abbrev pub Roomy : Place → Type 0
 Roomy p = length (contents (pagesIn p)) ≤ 1696
 
-abbrev part : Place → List ℕ
+abbrev pub part : Place → List ℕ
 part p = padded 1696 (contents (pagesIn p))
 
-part-length : (p : Place) → Roomy p → length (part p) ≡ 1696
+pub part-length : (p : Place) → Roomy p → length (part p) ≡ 1696
 part-length p r = padded-length 1696 (contents (pagesIn p)) r
 
 pub store-length : (ps : List Place) → Every Roomy ps → length (storeImage ps) ≡ length ps * 1696
@@ -163,7 +163,7 @@ module _ (ps : List Place) (i : ℕ) (pages : List Held) (r : Every Roomy ps) (h
       ∙ contents-part pages j z long l
 
 -- ---- the places of a collector that our calls made have room
-roomy-place : (p : Place) → PlaceOk p → Roomy p
+pub roomy-place : (p : Place) → PlaceOk p → Roomy p
 roomy-place free o = omega arith
 roomy-place (waiting k first pages) o = omega (arith, contents-length pages (long-pages k pages (o .each)), o .few, o .key .few)
 roomy-place (done k first) o = omega arith

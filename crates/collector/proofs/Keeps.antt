@@ -25,7 +25,7 @@ use Rattle.collector.proofs.Places.{numbers-snoc, same-true, found, apa
 use Rattle.collector.proofs.Hold.{every-mono, every-expire, Holds, hold-law, every-find, every-none, arrive-first}
 
 -- ---- a page that is judged good has a legal key, a legal number and 53 octets
-drop-octets : (n : ℕ) (l : List ℕ) → Octets l → Octets (drop n l)
+pub drop-octets : (n : ℕ) (l : List ℕ) → Octets l → Octets (drop n l)
 drop-octets zero l o = o
 drop-octets (suc n) [] o = o
 drop-octets (suc n) (x ∷ xs) o = drop-octets n xs (λ i. o (suc i))

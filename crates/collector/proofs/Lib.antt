@@ -1,6 +1,6 @@
 -- Lists, places, and what one page does to the places
 mod Lists
-mod Places
+pub mod Places
 mod Hold
 -- Pages of a message
 mod PageCode
@@ -14,6 +14,7 @@ mod Used
 mod Reorder
 -- What others may use
 pub mod Keeps
+pub mod Holdings
 pub mod Demand3Proved
 pub mod Wrong
 pub mod Refusals
@@ -23,11 +24,15 @@ mod Search
 mod Tests
 -- What the code holds
 mod Headers
-mod Images
+pub mod Images
 mod Expiry
 mod Pages
 mod Meeting
-mod Steady
+pub mod Steady
 mod Starts
+-- A head and a store that are tested
+pub mod ReadBack
+mod Checks
+mod Checked
 -- The contracts settle everything
 pub mod Settled

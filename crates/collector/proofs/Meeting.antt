@@ -99,7 +99,7 @@ module _ (c : Collector) (t : ℕ) (k : Key) (p : Held) where
   hold-none n m = hold-full c t k p (ap isFree (find-none k (c .places) n)) (any-none (c .places) m)
 
 -- ---- what the code sees of a place
-key-image : (k : Key) (p : Place) → stateHasKey (keyImage k) (placeImage p .state) ≡ hasKey k p
+pub key-image : (k : Key) (p : Place) → stateHasKey (keyImage k) (placeImage p .state) ≡ hasKey k p
 unfolding sameKey sameKeyImage
 key-image k free = refl
 key-image k (waiting j first pages) = refl

@@ -61,7 +61,7 @@ found k [] = λ e. clash refl e
 found k (p ∷ ps) = onBool (hasKey k p) (λ h. rw h (λ e. h)) (λ h. rw h (λ e. found k ps e))
 
 -- no place has the key
-absent : (k : Key) (p : Place) (ps : List Place) → find k (p ∷ ps) ≡ free → (hasKey k p ≡ false) × (find k ps ≡ free)
+pub absent : (k : Key) (p : Place) (ps : List Place) → find k (p ∷ ps) ≡ free → (hasKey k p ≡ false) × (find k ps ≡ free)
 absent k p ps =
     onBool (hasKey k p)
     (λ h. rw h (λ e. clash (ap isFree e) (keyed-free k p h)))

@@ -14,7 +14,7 @@ use Rattle.collector.specs.Feed.{sameOctets}
 use Rattle.collector.specs.Steps.{firstIndex}
 
 -- the list from a place on is the element there and the list behind it
-front : {A : Type 0} (z : A) (l : List A) (i : ℕ) → i < length l → drop i l ≡ getD l i z ∷ drop (i + 1) l
+pub front : {A : Type 0} (z : A) (l : List A) (i : ℕ) → i < length l → drop i l ≡ getD l i z ∷ drop (i + 1) l
 front z l i h = drop-cons l i z h ∙ ap (λ n. getD l i z ∷ drop n l) (sym (add-one i))
 
 -- ---- the first element of which a test holds: `Passed i` says that of the elements before i it holds of none

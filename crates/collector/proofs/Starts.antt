@@ -25,7 +25,7 @@ fresh-image timeout places store e f =
     ap₂ (λ (ps : List PlaceImage) (o : List ℕ). record { head = record { timeout = timeout; last = 0; places = ps }; store = o }) e (f ∙ sym (store-none 8 13568 refl))
 
 module _ (timeout : ℕ) where
-  in-range : startable timeout ≡ true → (1 ≤ timeout) × (timeout ≤ 600)
+  pub in-range : startable timeout ≡ true → (1 ≤ timeout) × (timeout ≤ 600)
   unfolding startable
   in-range =
       onBool (leb 1 timeout)

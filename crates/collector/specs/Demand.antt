@@ -11,7 +11,7 @@ use Rattle.pagecode.specs.Field.{Octets}
 use Rattle.pagecode.specs.Page.{legal, content, encodedPage}
 use Rattle.lists.specs.Lists.{Every, memb}
 use Rattle.collector.specs.Lists.{Nodup, different}
-use Rattle.collector.specs.Place.{Key, Held, sameKey}
+use Rattle.collector.specs.Place.{Key, sameKey}
 use Rattle.collector.specs.Feed.{Answer, kept, ready, refused, Call}
 
 pub record Message : Type 0 where

@@ -2,6 +2,7 @@
 -- stand in its 1,696 octets of one store. What is not in use is 0, so a collector has one image only.
 -- Leans on the collector, and on the structs of the source.
 use Prim.Native.Nat.{ℕ, _-_}
+use mathlib.Core.Bool.{Bool, true, false}
 use mathlib.Core.Path.{_≡_}
 use mathlib.Core.List.{List, [], _∷_, _++_, map}
 use lib.ListN.{length, replicate}
@@ -47,6 +48,11 @@ collectorImage c = record { head = headImage c; store = storeImage (c .places) }
 -- a collector that our calls made
 abbrev pub Made : CollectorImage → Type 0
 Made image = (c : Collector) × Valid c × (image ≡ collectorImage c)
+
+-- the answer of a test whether P holds
+abbrev pub Decides : Bool → Type 0 → Type 0
+Decides true P = P
+Decides false P = P → ⊥
 
 -- the answer as the code gives it: the octets of READY are in the buffer
 abbrev pub answerImage : Answer → Fed

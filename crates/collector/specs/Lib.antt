@@ -6,3 +6,4 @@ pub mod Demand
 pub mod Demand3
 pub mod Image
 pub mod Steps
+pub mod Checks

@@ -5,7 +5,7 @@ use mathlib.Core.Bool.{Bool, true, false, _&&_, cond}
 use mathlib.Core.Path.{_≡_}
 use mathlib.Core.List.{List, [], _∷_, _++_, map}
 use lib.Dec.{eqb}
-use lib.ListN.{length, getD, set, take, drop}
+use lib.ListN.{length, getD, set}
 use Rattle.collector.specs.declared.state.Key.{Key as KeyImage}
 use Rattle.collector.specs.declared.state.PlaceState.{PlaceState}
 use Rattle.collector.specs.declared.state.PlaceState.the-variants.{Free, Open, Done}
@@ -16,7 +16,7 @@ use Rattle.collector.specs.declared.header.Judged.{Judged as JudgedImage
 use Rattle.collector.specs.declared.header.Judged.the-variants.{Bad, Stop, Good}
 use Rattle.lists.specs.Lists.{Every}
 use Rattle.collector.specs.Lists.{Nodup}
-use Rattle.collector.specs.Place.{Key, Held, Place, free, waiting, done, over, expire, pagesIn, numbers}
+use Rattle.collector.specs.Place.{Key, Held, Place, free, waiting, over, expire, pagesIn, numbers}
 use Rattle.collector.specs.Feed.{Collector, Step, Settled, Judged, bad, stop, good, written, heldOf}
 use Rattle.collector.specs.Valid.{Valid, KeyOk, PageOk, PlaceOk}
 use Rattle.collector.specs.Image.{padded, keyImage, placeImage, storeImage, headImage, answerImage}

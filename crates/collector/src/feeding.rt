@@ -21,6 +21,7 @@ use crate::state::FedCollector;
 use crate::state::FedHead;
 use crate::state::Head;
 use crate::state::Key;
+use crate::state::LAST_SECOND;
 use crate::state::PLACE_OCTETS;
 use crate::state::PLACES;
 use crate::state::Place;
@@ -136,7 +137,7 @@ fn feed_head(head: Head, store: &mut [u8], second: u64, page: &[u8], out: &mut [
     if out.len() != PLACE_OCTETS {
         return refuse(head, Refusal::Out);
     }
-    if second > 2477260799 {
+    if second > LAST_SECOND {
         return refuse(head, Refusal::Second);
     }
     if second < head.last {
@@ -151,6 +152,21 @@ fn feed_head(head: Head, store: &mut [u8], second: u64, page: &[u8], out: &mut [
 // A feed on a collector in two parts: its head by value, its store where it stands.
 pub fn feed_in_place(
     head: Head,
+    store: &mut [u8],
+    second: u64,
+    page: &[u8],
+    out: &mut [u8],
+) -> FedHead
+    requires { ⌜ Made (record { head = head; store = now store }) ⌝ }
+    ensures { λ r. ⌜ Feeds (record { head = head; store = now (store .entry) }) (record { second = second; page = now (page .entry); room = length (now (out .entry)) }) (now (out .entry))
+        (record { answer = r .answer; collector = record { head = r .head; store = now (store .exit) } }) (now (out .exit)) ⌝ }
+{
+    feed_head(head, store, second, page, out)
+}
+
+// The same, with the store as an array.
+fn feed_array(
+    head: Head,
     store: &mut [u8; STORE_OCTETS],
     second: u64,
     page: &[u8],
@@ -161,7 +177,7 @@ pub fn feed_in_place(
         (record { answer = r .answer; collector = record { head = r .head; store = now (store .exit) } }) (now (out .exit)) ⌝ }
 {
     let octets: &mut [u8] = store;
-    feed_head(head, octets, second, page, out)
+    feed_in_place(head, octets, second, page, out)
 }
 
 // A feed: the collector by value, a second, a page and an output buffer.
@@ -170,7 +186,7 @@ pub fn feed(mut collector: Collector, second: u64, page: &[u8], out: &mut [u8]) 
     ensures { λ r. ⌜ Feeds collector (record { second = second; page = now (page .entry); room = length (now (out .entry)) }) (now (out .entry)) r (now (out .exit)) ⌝ }
 {
     let head = collector.head;
-    let fed = feed_in_place(head, &mut collector.store, second, page, out);
+    let fed = feed_array(head, &mut collector.store, second, page, out);
     let answer = fed.answer;
     let after = fed.head;
     collector.head = after;

@@ -19,7 +19,7 @@ fn is_same_key(a: Key, b: Key) -> bool
     a.size == b.size
 }
 
-fn has_key(place: Place, key: Key) -> bool
+pub fn has_key(place: Place, key: Key) -> bool
     ensures { λ r. ⌜ r ≡ stateHasKey key (place .state) ⌝ }
 {
     let state = place.state;

@@ -13,7 +13,7 @@ use refusal::Refusal;
 // The product's time-out, in seconds (ICD 6.4.1).
 pub const TIMEOUT: u64 = 150;
 
-fn is_startable(timeout: u64) -> bool
+pub fn is_startable(timeout: u64) -> bool
     ensures { λ r. ⌜ r ≡ startable timeout ⌝ }
 {
     if timeout < 1 {

@@ -9,6 +9,9 @@ pub const PLACE_OCTETS: usize = 1696;
 
 pub const STORE_OCTETS: usize = 13568;
 
+// The last second that a feed takes.
+pub const LAST_SECOND: u64 = 2477260799;
+
 pub struct Key {
     pub status: u8,
     pub number: u8,

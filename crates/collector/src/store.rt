@@ -7,7 +7,6 @@ ghost use Rattle.collector.specs.Feed.{sameOctets};
 ghost use Rattle.lists.specs.Lists.{laid};
 ghost use Rattle.collector.specs.Steps.{firstIndex};
 use crate::state::PLACE_OCTETS;
-use crate::state::STORE_OCTETS;
 
 // The place of a number among the first `count`; `count` if it is not there.
 pub fn find_number(numbers: [u8; 32], count: usize, n: u8) -> usize
@@ -63,13 +62,12 @@ pub fn clear_place(store: &mut [u8], i: usize)
     }
 }
 
-// Lays zeros over the whole store.
+// Lays zeros over a whole store, of whatever length.
 pub fn clear_store(store: &mut [u8])
-    requires { ⌜ length (now store) ≡ 13568 ⌝ }
-    ensures { λ r. ⌜ now (store .exit) ≡ replicate 13568 0 ⌝ }
+    ensures { λ r. ⌜ now (store .exit) ≡ replicate (length (now (store .entry))) 0 ⌝ }
 {
     let mut j: usize = 0;
-    while j < STORE_OCTETS {
+    while j < store.len() {
         store[j] = 0;
         j += 1;
     }

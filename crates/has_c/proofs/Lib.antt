@@ -1,3 +1,3 @@
-pub mod Numbers
 pub mod TooMany
+pub mod Values
 pub mod Settled

@@ -9,10 +9,14 @@ ghost use Rattle.pagecode.specs.Solve.{Solved};
 ghost use Rattle.reader.specs.Reader.{reading, Reads};
 ghost use Rattle.writer.specs.Writer.{Writes};
 ghost use Rattle.mt1.specs.Time.{referenceTime};
-ghost use Rattle.has_c.specs.Codes.{Codes, pageCode, readCode, writeCode, timeCode};
+ghost use Rattle.image.specs.Calls.{startedAnswer, started, Feeds};
+ghost use Rattle.drive.specs.Drive.{Replays};
+ghost use Rattle.has_c.specs.Codes.{Is, Codes, pageCode, readCode, writeCode, timeCode, fedCode, replayCode};
 use codes::coded;
+use codes::fed_code;
 use codes::page_code;
 use codes::read_code;
+use codes::replay_code;
 use codes::time_code;
 use codes::write_code;
 
@@ -29,7 +33,7 @@ pub extern "C" fn has_encode_page(
     page: u64,
     out: &mut [u8],
 ) -> u64
-    ensures { λ r. ⌜ Codes (Encoded (now (message .entry)) status number page (now (out .entry))) (pageCode 0) (now (out .exit)) r ⌝ }
+    ensures { λ r. ⌜ Codes (λ a. Encoded (now (message .entry)) status number page (now (out .entry)) a (now (out .exit))) (pageCode 0) r ⌝ }
 {
     page_code(pagecode::encode_page(message, status, number, page, out), 0)
 }
@@ -51,7 +55,7 @@ fn wide_numbers(numbers: &[u8]) -> [u64; 32]
 // The message of as many pages as there are numbers; the value is how many.
 #[no_mangle]
 pub extern "C" fn has_solve(contents: &[u8], numbers: &[u8], out: &mut [u8]) -> u64
-    ensures { λ r. ⌜ Codes (Solved (now (contents .entry)) (now (numbers .entry)) (now (out .entry))) (pageCode (length (now (numbers .entry)))) (now (out .exit)) r ⌝ }
+    ensures { λ r. ⌜ Codes (λ a. Solved (now (contents .entry)) (now (numbers .entry)) (now (out .entry)) a (now (out .exit))) (pageCode (length (now (numbers .entry)))) r ⌝ }
 {
     let k = numbers.len();
     if k > MOST_PAGES {
@@ -64,7 +68,7 @@ pub extern "C" fn has_solve(contents: &[u8], numbers: &[u8], out: &mut [u8]) -> 
 // The records of a message; the value is how many, or the bit place of the refusal.
 #[no_mangle]
 pub extern "C" fn has_read(message: &[u8], mask_id: u64, mask: &[u8], records: &mut [u8]) -> u64
-    ensures { λ r. ⌜ Codes (Reads reading (record { octets = now (message .entry); lent = record { id = «mask_id»; octets = now (mask .entry) }; room = length (now (records .entry)) }) (now (records .entry))) readCode (now (records .exit)) r ⌝ }
+    ensures { λ r. ⌜ Codes (λ a. Reads reading (record { octets = now (message .entry); lent = record { id = «mask_id»; octets = now (mask .entry) }; room = length (now (records .entry)) }) (now (records .entry)) a (now (records .exit))) readCode r ⌝ }
 {
     read_code(reader::read(message, mask_id, mask, records))
 }
@@ -72,7 +76,7 @@ pub extern "C" fn has_read(message: &[u8], mask_id: u64, mask: &[u8], records: &
 // The message of records; the value is its size.
 #[no_mangle]
 pub extern "C" fn has_write(records: &[u8], mask_id: u64, mask: &[u8], out: &mut [u8]) -> u64
-    ensures { λ r. ⌜ Codes (Writes (record { records = now (records .entry); lent = record { id = «mask_id»; octets = now (mask .entry) }; room = length (now (out .entry)) }) (now (out .entry))) writeCode (now (out .exit)) r ⌝ }
+    ensures { λ r. ⌜ Codes (λ a. Writes (record { records = now (records .entry); lent = record { id = «mask_id»; octets = now (mask .entry) }; room = length (now (out .entry)) }) (now (out .entry)) a (now (out .exit))) writeCode r ⌝ }
 {
     write_code(writer::write(records, mask_id, mask, out))
 }
@@ -80,7 +84,39 @@ pub extern "C" fn has_write(records: &[u8], mask_id: u64, mask: &[u8], out: &mut
 // The second that a time of hour means; the value is the second.
 #[no_mangle]
 pub extern "C" fn has_reference_time(second: u64, time: u64) -> u64
-    ensures { λ r. ⌜ r ≡ timeCode (referenceTime second time) ⌝ }
+    ensures { λ r. ⌜ Is (timeCode (referenceTime second time)) r ⌝ }
 {
     time_code(mt1::reference_time(second, time))
+}
+
+// A fresh collector, in octets; the value is 0.
+#[no_mangle]
+pub extern "C" fn has_start(head: &mut [u8], store: &mut [u8], timeout: u64) -> u64
+    ensures { λ r. ⌜ Is (pageCode 0 (startedAnswer (record { head = now (head .entry); store = now (store .entry) }) timeout)) r
+        × (record { head = now (head .exit); store = now (store .exit) } ≡ started (record { head = now (head .entry); store = now (store .entry) }) timeout) ⌝ }
+{
+    page_code(image::start(head, store, timeout), 0)
+}
+
+// A feed to a collector in octets; the value says KEPT with the count, or READY with the size.
+#[no_mangle]
+pub extern "C" fn has_feed(
+    head: &mut [u8],
+    store: &mut [u8],
+    second: u64,
+    page: &[u8],
+    out: &mut [u8],
+) -> u64
+    ensures { λ r. ⌜ Codes (λ a. Feeds (record { head = now (head .entry); store = now (store .entry) }) (record { second = second; page = now (page .entry); room = length (now (out .entry)) }) (now (out .entry)) a
+        (record { head = now (head .exit); store = now (store .exit) }) (now (out .exit))) fedCode r ⌝ }
+{
+    fed_code(image::feed(head, store, second, page, out))
+}
+
+// A recorded drive; the value is how many octets of log it has.
+#[no_mangle]
+pub extern "C" fn has_replay(timeout: u64, entries: &[u8], log: &mut [u8]) -> u64
+    ensures { λ r. ⌜ Codes (λ a. Replays timeout (now (entries .entry)) (now (log .entry)) a (now (log .exit))) replayCode r ⌝ }
+{
+    replay_code(drive::replay(timeout, entries, log))
 }

@@ -1,33 +1,28 @@
 // Reads the octets of a message from standard input, with no mask lent, and lists its records in capital hex, or the refusal (document 01, Checked by hand).
-ghost use Prim.Native.Nat.{_≤_};
 use libc::STDOUT_FILENO;
 use mt1::RefusalAt;
 use reader::RECORDS_OCTETS;
 use reader::ReadAnswer;
 
-// The digit of a number below 16, in capitals.
-fn digit(n: u8) -> u8
-    requires { ⌜ n ≤ 15 ⌝ }
-{
-    if n < 10 { b'0' + n } else { b'A' + (n - 10) }
-}
+const RECORD_OCTETS: usize = 16;
 
-fn print_octet(x: u8) {
-    let text = [digit(x / 16), digit(x % 16)];
-    io::write_all(STDOUT_FILENO, &text);
+fn print_record(octets: &[u8]) {
+    let mut text = [0u8; 32];
+    let n = hex::spell(octets, &mut text);
+    io::write_all(STDOUT_FILENO, &text[..n]);
+    io::write_all(STDOUT_FILENO, b"\n");
 }
 
 // The first n records, a line each.
 fn print_records(records: &[u8], n: u64) {
     let mut i: usize = 0;
-    while i < records.len() {
-        if i as u64 / 16 >= n {
+    while i < records.len() / RECORD_OCTETS {
+        if i as u64 >= n {
             return;
         }
-        print_octet(records[i]);
-        if i % 16 == 15 {
-            io::write_all(STDOUT_FILENO, b"\n");
-        }
+        let start = RECORD_OCTETS * i;
+        let end = start + RECORD_OCTETS;
+        print_record(&records[start..end]);
         i += 1;
     }
 }

@@ -7,5 +7,6 @@ pub mod Blocks
 pub mod Inverted
 pub mod Signs
 pub mod Counts
+pub mod Ends
 pub mod Building
 pub mod Absences

@@ -1,11 +1,11 @@
 -- A message of type 1 as a value: 01, Message type 1; ICD 5. It keeps all that is read, the reserved bits and the order of the subset's systems too.
 -- Leans on bit strings.
-use Prim.Native.Nat.{ℕ, zero, suc, _+_, _*_}
+use Prim.Native.Nat.{ℕ, _+_, _*_}
 use mathlib.Core.Bool.{Bool, true, false, cond}
 use mathlib.Core.List.{List, [], _∷_}
-use mathlib.Core.Option.{Option, none, some}
+use mathlib.Core.Option.{Option}
 use lib.Dec.{eqb}
-use lib.ListN.{length, getD, take, replicate}
+use lib.ListN.{getD, take, replicate}
 use Rattle.bits.specs.Bits.{num}
 
 -- "Header, 32 bits: time of hour 12 .., flags 6 .., reserved 4, Mask ID 5, IOD Set ID 5"

@@ -1,13 +1,13 @@
 -- The records of a message: 01, Records.
 -- Leans on the message as a value, and for its systems on the parser, in Mt1.
 use Prim.Native.Nat.{ℕ, zero, suc, _+_, _*_, _-_, _/_, _%_}
-use mathlib.Core.Bool.{Bool, true, false, _&&_, cond}
+use mathlib.Core.Bool.{false, _&&_, cond}
 use mathlib.Core.List.{List, [], _∷_, _++_}
 use mathlib.Core.Option.{Option, none, some}
 use lib.Dec.{eqb, ltb}
 use lib.ListN.{getD, replicate}
 use Rattle.bits.specs.Bits.{value, octetsOf}
-use Rattle.mt1.specs.Message.{Header, System, count, countBefore, cellsOf, Orbit, Clocks, Subset, Phase, Block, Message}
+use Rattle.mt1.specs.Message.{System, count, countBefore, cellsOf, Clocks, Subset, Block, Message}
 use Rattle.mt1.specs.Mt1.{Lent, lentFor, used}
 
 -- ---- octets

@@ -1,7 +1,7 @@
 -- The reference time: 01, Records, last paragraph.
 -- Leans on nothing.
 use Prim.Native.Nat.{ℕ, _+_, _*_, _/_}
-use mathlib.Core.Bool.{Bool, cond}
+use mathlib.Core.Bool.{cond}
 use lib.Dec.{ltb}
 use Rattle.refusal.specs.declared.Refusal.the-variants.{Second, Toh}
 use Rattle.mt1.specs.declared.answer.TimeAnswer.{TimeAnswer}

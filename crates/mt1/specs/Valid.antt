@@ -9,7 +9,7 @@ use lib.Dec.{eqb}
 use lib.ListN.{length}
 use Rattle.lists.specs.Lists.{Every, memb}
 use Rattle.mt1.specs.Message.{Header, hasMask, hasOrbit, hasClock, hasSubset, hasCode, hasPhase, System, count, cellBits, cellsOf, Mask, Orbit, Clocks, Subset, Phase, Block, Message}
-use Rattle.mt1.specs.Mt1.{known, iodBits, satellitesOf, ids, used, Lent, lentFor}
+use Rattle.mt1.specs.Mt1.{known, iodBits, satellitesOf, ids, used}
 
 pub record HeaderOk (h : Header) : Type 0 where
   pub time : h .time < 3600

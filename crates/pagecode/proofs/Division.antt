@@ -5,22 +5,20 @@ use mathlib.Core.Path.{_≡_, refl, sym, ap, ap₂, _∙_, subst}
 use mathlib.Core.List.{List, [], _∷_, _++_, append-assoc, append-nil}
 use Prim.Native.Nat.{ℕ, zero, suc, _+_, _-_, _≤_, _<_}
 use native.Mathlib.Nat.{suc-add, zero-add}
-use native.Mathlib.Numerals.{add-one}
 use native.Mathlib.Omega.{arith}
 use lib.Dec.{eqb, eqb·zero-suc, eqb·suc-zero, eqb·suc-suc}
-use lib.ListN.{length, getD, set, drop, replicate, length-append, length-drop, length-replicate, replicate-append-replicate, List·getD-eq-default}
-use lib.Seq.{drop-at, getD-drop}
+use lib.ListN.{length, getD, drop, replicate, length-append, length-drop, length-replicate, replicate-append-replicate}
+use lib.Seq.{getD-drop}
 use Rattle.pagecode.specs.Field.{_⊕_, _⊗_, Octets}
 use Rattle.pagecode.specs.Code.{plus, scale, generator, remainder, codeword}
 use Rattle.pagecode.specs.Page.{listOf}
-use Rattle.pagecode.specs.Matrix.{unitWord, parityColumn, IsParity}
-use Rattle.pagecode.proofs.Linear.{⊕-comm, zero-⊕, ⊕-zero}
-use Rattle.pagecode.proofs.Laws.{⊗-comm, zero-⊗, one-⊗}
+use Rattle.pagecode.specs.Matrix.{unitWord}
+use Rattle.pagecode.proofs.Linear.{⊕-comm, zero-⊕, ⊕-zero, ⊕-lt}
+use Rattle.pagecode.proofs.Laws.{⊗-comm, ⊗-lt, zero-⊗, one-⊗}
 use Rattle.pagecode.proofs.Polynomials.{plus-length, plus-get, scale-length, scale-get}
 use Rattle.pagecode.proofs.Listed.{listed-length, listed-cong, listed-zeros}
 use Rattle.pagecode.proofs.Roots.{generator-length, generator-octets}
 use Rattle.pagecode.proofs.Generator.{coefficients, generator-223}
-use Rattle.pagecode.proofs.Stored.{Stored, store-next}
 
 -- ---- sums
 abbrev zeros : ℕ → List ℕ
@@ -60,12 +58,12 @@ module _ (t : List ℕ) where
       let long = length-append f (0 ∷ []) in
       plus-length (scale x t) (f ++ (0 ∷ [])) (omega (arith, scale-length x t, long)) ∙ omega (arith, long)
 
-  step-get : (c : List ℕ) (i : ℕ) → 0 < length c → getD (remainder 1 t (c ++ (0 ∷ []))) i 0 ≡ getD c (i + 1) 0 ⊕ getD t i 0 ⊗ getD c 0 0
+  step-get : (c : List ℕ) (i : ℕ) → 0 < length c → getD (remainder 1 t (c ++ (0 ∷ []))) i 0 ≡ getD c (suc i) 0 ⊕ getD t i 0 ⊗ getD c 0 0
   unfolding remainder
   step-get [] i l = absurd (omega arith)
   step-get (x ∷ f) i l =
       plus-get (scale x t) (f ++ (0 ∷ [])) i
-      ∙ ap₂ _⊕_ (scale-get x t i ∙ ⊗-comm x (getD t i 0)) (zero-get f i ∙ ap (λ (k : ℕ). getD (x ∷ f) k 0) (sym (add-one i)))
+      ∙ ap₂ _⊕_ (scale-get x t i ∙ ⊗-comm x (getD t i 0)) (zero-get f i)
       ∙ ⊕-comm _ _
 
   -- ---- several steps
@@ -99,11 +97,10 @@ module _ (t : List ℕ) where
   unfolding raised remainder
   raised-zero = append-nil t
 
-  pub raised-next : (n : ℕ) → raised (n + 1) ≡ remainder 1 t (raised n ++ (0 ∷ []))
+  raised-next : (n : ℕ) → raised (suc n) ≡ remainder 1 t (raised n ++ (0 ∷ []))
   unfolding raised
   raised-next n =
-      ap raised (add-one n)
-      ∙ remainder-suc n (t ++ zeros (suc n))
+      remainder-suc n (t ++ zeros (suc n))
       ∙ ap (λ (f : List ℕ). remainder 1 t (remainder n t f)) (ap (λ (z : List ℕ). t ++ z) (zeros-next n) ∙ sym (append-assoc t (zeros n) (0 ∷ [])))
       ∙ ap (remainder 1 t) (remainder-front n (t ++ zeros n) (0 ∷ []) (omega (arith, length-append t (zeros n), length-replicate {A = ℕ} n 0)))
     where
@@ -165,37 +162,27 @@ divisor-octets i = subst (λ (x : ℕ). x < 256) (sym (getD-drop 1 (generator 22
 divisor-table : divisor ≡ coefficients
 divisor-table = ap (drop 1) generator-223
 
-column-raised : (j : ℕ) → j < 32 → parityColumn j ≡ raised divisor (31 - j)
-unfolding parityColumn codeword
-column-raised j h =
-    drop-at (unitWord j) _ 32 (unit-length j)
-    ∙ word-raised divisor j (31 - j) 223 (unitWord j) (unit-is j h) divisor-length divisor-octets
+pub unit-codeword : (j : ℕ) → j < 32 → codeword (unitWord j) ≡ unitWord j ++ raised divisor (31 - j)
+unfolding codeword
+unit-codeword j h = ap (λ (l : List ℕ). unitWord j ++ l) (word-raised divisor j (31 - j) 223 (unitWord j) (unit-is j h) divisor-length divisor-octets)
 
 -- the last column is the table itself
-pub first-raised : coefficients ≡ raised divisor 0
-first-raised = sym (raised-zero divisor ∙ divisor-table)
+pub first-raised : raised divisor 0 ≡ coefficients
+first-raised = raised-zero divisor ∙ divisor-table
+
+pub raised-length : (n : ℕ) → length (raised divisor n) ≡ 223
+raised-length zero = ap length (raised-zero divisor) ∙ divisor-length
+raised-length (suc n) =
+    ap length (raised-next divisor n)
+    ∙ step-length divisor (raised divisor n) (raised-length n ∙ sym divisor-length) (omega (arith, divisor-length)) ∙ divisor-length
 
 -- one step from a column, octet by octet with the table
-pub next-length : (c : List ℕ) → length c ≡ 223 → length (remainder 1 divisor (c ++ (0 ∷ []))) ≡ 223
-next-length c l = step-length divisor c (omega (arith, divisor-length)) (omega (arith, divisor-length)) ∙ divisor-length
+pub raised-octet : (n i : ℕ) → getD (raised divisor (suc n)) i 0 ≡ getD (raised divisor n) (suc i) 0 ⊕ getD coefficients i 0 ⊗ getD (raised divisor n) 0 0
+raised-octet n i =
+    ap (λ (l : List ℕ). getD l i 0) (raised-next divisor n)
+    ∙ step-get divisor (raised divisor n) i (omega (arith, raised-length n))
+    ∙ ap (λ (t : List ℕ). getD (raised divisor n) (suc i) 0 ⊕ getD t i 0 ⊗ getD (raised divisor n) 0 0) divisor-table
 
-pub next-octet : (c : List ℕ) (i m : ℕ) → 0 < length c → m ≡ getD coefficients i 0 ⊗ getD c 0 0 → getD c (i + 1) 0 ⊕ m ≡ getD (remainder 1 divisor (c ++ (0 ∷ []))) i 0
-next-octet c i m l e =
-    ap (λ (x : ℕ). getD c (i + 1) 0 ⊕ x) e ∙ sym (step-get coefficients c i l)
-    ∙ ap (λ (t : List ℕ). getD (remainder 1 t (c ++ (0 ∷ []))) i 0) (sym divisor-table)
-
-pub next-last : (c : List ℕ) (m : ℕ) → length c ≡ 223 → m ≡ getD coefficients 222 0 ⊗ getD c 0 0 → m ≡ getD (remainder 1 divisor (c ++ (0 ∷ []))) 222 0
-next-last c m l e = sym (ap (λ (x : ℕ). x ⊕ m) (List·getD-eq-default c 0 {n = 223} (omega arith)) ∙ zero-⊕ m) ∙ next-octet c 222 m (omega arith) e
-
--- the columns of which the last i stand
-abbrev pub Standing : List (List ℕ) → ℕ → Type 0
-Standing = Stored [] (λ k. 31 - k) (raised divisor) 32
-
-pub standing-next : (columns : List (List ℕ)) (c : List ℕ) (i : ℕ) → i < 32 → c ≡ raised divisor i → Standing columns i → Standing (set columns (31 - i) c) (i + 1)
-standing-next columns c i h e s = store-next [] (λ k. 31 - k) (raised divisor) 32 columns i c s e (omega arith) (λ k l d. omega arith)
-
-pub standing-done : (columns : List (List ℕ)) → Standing columns 32 → IsParity columns
-standing-done columns s j h = ap (λ (m : ℕ). getD columns m []) back ∙ s .is (31 - j) (omega arith) ∙ sym (column-raised j h)
-  where
-    back : j ≡ 31 - (31 - j)
-    back = omega arith
+pub raised-lt : (n i : ℕ) → getD (raised divisor n) i 0 < 256
+raised-lt zero i = subst (λ (l : List ℕ). getD l i 0 < 256) (sym (raised-zero divisor)) (divisor-octets i)
+raised-lt (suc n) i = subst (λ (x : ℕ). x < 256) (sym (raised-octet n i)) (⊕-lt _ _ (raised-lt n (suc i)) (⊗-lt _ _))

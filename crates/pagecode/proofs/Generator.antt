@@ -34,7 +34,7 @@ ruled n c (d ∷ f) = rule n (length f) c d && ruled n d f
 regroup : (X N P d q A B : ℕ) → (X ⊕ N) ⊗ (d ⊗ (q ⊗ P) ⊕ A) ⊕ N ⊗ (X ⊕ 1) ⊗ (d ⊗ q ⊕ B) ≡ d ⊗ (P ⊕ N) ⊗ (q ⊗ X) ⊕ (d ⊗ (N ⊗ (P ⊕ 1)) ⊗ q ⊕ ((X ⊕ N) ⊗ A ⊕ N ⊗ (X ⊕ 1) ⊗ B))
 regroup X N P d q A B = simp ring
 
-nought : power 0 ⊕ 1 ≡ 0
+pub nought : power 0 ⊕ 1 ≡ 0
 unfolding power
 nought = ⊕-self 1
 
@@ -118,7 +118,7 @@ unfoldable pub coefficients : List ℕ
 unfolding table42
 coefficients = drop 1 (reverse table42)
 
-coefficients-test : ruled 223 1 coefficients ≡ true
+pub coefficients-test : ruled 223 1 coefficients ≡ true
 unfolding ruled coefficients _⊕_ _⊗_ power
 coefficients-test = refl
 

@@ -26,13 +26,18 @@ mod Pieces
 mod Stored
 mod Partial
 mod Walk
+mod Noughts
+mod LaidPages
 -- The functions
 mod Division
+mod Formula
 mod Rows
 mod Content
 mod Cells
+mod Lines
 mod Steps
 mod Reduced
+mod Reducing
 mod Solution
 mod SolvedPages
 -- What others may use

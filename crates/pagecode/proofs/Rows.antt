@@ -1,23 +1,26 @@
--- The rows of the matrix: of one of the first 32 pages a unit row, of another the octets of the parity columns at its place.
+-- The rows of the matrix: of one of the first 32 pages a unit row, of another the octets of the parity columns at its place, which the formula gives.
 -- A page's octet stands in the code word at its place: the word itself first, and then its parity.
 use mathlib.Core.Bool.{true, cond}
-use mathlib.Core.Path.{_≡_, sym, ap, ap₂, _∙_}
-use mathlib.Core.List.{List, [], _∷_, _++_, append-nil}
+use mathlib.Core.Path.{_≡_, sym, ap, ap₂, _∙_, subst}
+use mathlib.Core.List.{List, _∷_, _++_, append-nil}
 use Prim.Native.Nat.{ℕ, zero, suc, _+_, _-_, _≤_, _<_}
 use native.Mathlib.Omega.{arith}
 use lib.Dec.{eqb, eqb·zero-suc, eqb·suc-zero, eqb·suc-suc}
 use lib.ListN.{length, getD, set, replicate, List·getD-append}
-use lib.Seq.{getD-drop}
+use lib.Seq.{getD-append-add}
+use Rattle.pagecode.specs.Field.{_⊕_, _⊗_, power, Inverse}
 use Rattle.pagecode.specs.Code.{codeword}
 use Rattle.pagecode.specs.Page.{listOf, filled}
-use Rattle.pagecode.specs.Matrix.{unitWord, matrixEntry, matrixRow, parityColumn, IsParity}
+use Rattle.pagecode.specs.Matrix.{unitWord, matrixEntry, matrixRow}
 use Rattle.pagecode.specs.Solve.{allLegal}
 use Rattle.pagecode.proofs.Listed.{listed-length, listed-get, listed-cong, listed-zeros}
 use Rattle.pagecode.proofs.Roots.{parity, codeword-is}
+use Rattle.pagecode.proofs.Generator.{coefficients}
 use Rattle.pagecode.proofs.LegalNumbers.{legal-is, legal-at}
 use Rattle.pagecode.proofs.Unique.{page-place}
 use Rattle.pagecode.proofs.Entries.{row-get}
-use Rattle.pagecode.proofs.Division.{unit-length}
+use Rattle.pagecode.proofs.Division.{unit-length, divisor, raised, unit-codeword}
+use Rattle.pagecode.proofs.Formula.{weights, raised-formula}
 
 -- ---- an entry
 filled-whole : (w : List ℕ) → length w ≡ 32 → filled w ≡ w
@@ -39,12 +42,14 @@ unit-entry p j lo hi =
     ∙ List·getD-append (unitWord j) (parity (unitWord j)) 0 (p - 1) (omega (arith, unit-length j))
     ∙ unit-get (p - 1) j (omega arith)
 
-parity-entry : (p j : ℕ) → 33 ≤ p → p ≤ 255 → matrixEntry p j ≡ getD (parityColumn j) (p - 33) 0
-unfolding parityColumn
-parity-entry p j lo hi = entry-place p j (omega arith) hi ∙ ap (λ (i : ℕ). getD (codeword (unitWord j)) i 0) place ∙ sym (getD-drop 32 (codeword (unitWord j)) (p - 33) 0)
+parity-entry : (p j : ℕ) → 33 ≤ p → p ≤ 255 → j < 32 → matrixEntry p j ≡ getD (raised divisor (31 - j)) (p - 33) 0
+parity-entry p j lo hi h =
+    entry-place p j (omega arith) hi
+    ∙ ap₂ (λ (w : List ℕ) (i : ℕ). getD w i 0) (unit-codeword j h) place
+    ∙ getD-append-add (unitWord j) (raised divisor (31 - j)) (p - 33) 0
   where
-    place : p - 1 ≡ 32 + (p - 33)
-    place = omega arith
+    place : p - 1 ≡ length (unitWord j) + (p - 33)
+    place = omega (arith, unit-length j)
 
 -- ---- a row
 pub row-length : (p : ℕ) → length (matrixRow p) ≡ 32
@@ -63,8 +68,13 @@ pub unit-row : (p : ℕ) → 1 ≤ p → p ≤ 32 → set (replicate 32 0) (p - 
 unfolding matrixRow
 unit-row p lo hi = unit-stored 32 (p - 1) (omega arith) ∙ listed-cong 32 (λ j. cond (eqb (p - 1) j) 1 0) (matrixEntry p) (λ j l. sym (unit-entry p j lo hi))
 
-pub row-octet : (columns : List (List ℕ)) (p j : ℕ) → IsParity columns → 33 ≤ p → p ≤ 255 → j < 32 → getD (getD columns j []) (p - 33) 0 ≡ getD (matrixRow p) j 0
-row-octet columns p j is lo hi h = ap (λ (f : List ℕ). getD f (p - 33) 0) (is j h) ∙ sym (row-get p j h ∙ parity-entry p j lo hi)
+-- an entry of the dense part by the formula: f is the page's part of it, r the inverse of the sum
+pub row-octet : (p j y f r x : ℕ) → 33 ≤ p → p ≤ 255 → j < 32 → y ≡ power (255 - p) → f ≡ getD coefficients (p - 33) 0 ⊗ (y ⊕ 9) → Inverse (y ⊕ power (254 - j)) r
+    → x ≡ r ⊗ getD weights j 0 ⊗ f → x ≡ getD (matrixRow p) j 0
+row-octet p j y f r x lo hi h at e is made =
+    made ∙ ap (λ (m : ℕ). r ⊗ getD weights j 0 ⊗ m) (e ∙ ap (λ (m : ℕ). getD coefficients (p - 33) 0 ⊗ (m ⊕ 9)) at)
+    ∙ raised-formula (31 - j) j (p - 33) (255 - p) r (omega arith) (omega arith) (subst (λ (m : ℕ). Inverse (m ⊕ power (254 - j)) r) at is)
+    ∙ sym (row-get p j h ∙ parity-entry p j lo hi h)
 
 -- ---- legal numbers
 pub legal-range : (k : ℕ) (ps : List ℕ) (i : ℕ) → k ≤ 32 → i < length ps → allLegal k ps ≡ true → (1 ≤ getD ps i 0) × (getD ps i 0 ≤ 255)

@@ -7,3 +7,4 @@ pub mod Answer
 pub mod Encode
 pub mod Solve
 pub mod System
+pub mod Reduction

@@ -8,6 +8,7 @@ use Prim.Native.Nat.{ℕ, zero, suc, _+_, _-_, _*_, _≤_, _<_}
 use lib.Dec.{ltb}
 use lib.ListN.{getD}
 use Rattle.pagecode.specs.Field.{_⊕_, _⊗_}
+use Rattle.pagecode.specs.Code.{scale}
 
 -- row r, column c: 32 columns of the square, and behind them 53 of right sides
 unfoldable pub cell : List (List ℕ) → List ℕ → ℕ → ℕ → ℕ
@@ -52,6 +53,10 @@ pub record Pivot (k q p : ℕ) (F : ℕ → ℕ → ℕ) : Type 0 where
 pub record Swept (k q : ℕ) (F G : ℕ → ℕ → ℕ) : Type 0 where
   pub own : (c : ℕ) → c < 85 → G q c ≡ F q c
   pub others : (r c : ℕ) → r < k → r ≢ q → c < 85 → G r c ≡ F r c ⊕ F r q ⊗ F q c
+
+-- a table has the multiples of l by 0 to 15
+abbrev pub Multiples : List ℕ → List (List ℕ) → Type 0
+Multiples l table = (v : ℕ) → v < 16 → getD table v [] ≡ scale v l
 
 -- nothing but 0 is sent to 0: "The resulting k x k matrix D can be inverted"
 pub record Regular (k : ℕ) (square : List (List ℕ)) : Type 0 where

@@ -3,9 +3,9 @@ ghost use mathlib.Core.Path.{_≡_};
 ghost use Prim.Native.Nat.{_*_, _%_};
 ghost use Rattle.pagecode.specs.Field.{_⊕_, _⊗_, double, power, Logarithm, Inverse};
 
-mod inverses;
+pub(crate) mod inverses;
 mod logarithms;
-mod powers;
+pub(crate) mod powers;
 
 use inverses::INVERSES;
 use logarithms::LOGARITHMS;
@@ -19,7 +19,7 @@ pub fn sum(a: u8, b: u8) -> u8
 }
 
 // α·x.
-fn doubled(x: u8) -> u8
+pub(crate) fn doubled(x: u8) -> u8
     ensures { λ r. ⌜ r ≡ double x ⌝ }
 {
     ((x / 128) * 29) ^ ((x % 128) * 2)
@@ -61,7 +61,8 @@ pub fn product(a: u8, b: u8) -> u8
     c0 ^ (c1 ^ (c2 ^ (c3 ^ (c4 ^ (c5 ^ (c6 ^ (c7 ^ 0)))))))
 }
 
-fn wide(x: u8) -> usize
+// An octet as a place in a table.
+pub(crate) fn wide(x: u8) -> usize
     ensures { λ r. ⌜ r ≡ x ⌝ }
 {
     x as usize

@@ -5,9 +5,12 @@ ghost use Rattle.pagecode.specs.Answer.{answerNumber};
 mod elimination;
 mod encoding;
 pub mod field;
+mod laying;
 mod matrix;
+mod missing;
 mod numbers;
 mod page;
+mod reduction;
 mod sizes;
 mod solving;
 

@@ -1,90 +1,76 @@
-// The generator matrix of the code (ICD 6.2.3), worked out column after column by the long division's own step.
-ghost use mathlib.Core.Bool.{true};
-ghost use mathlib.Core.List.{[], _∷_, _++_};
+// The generator matrix of the code (ICD 6.2.3), row by row. Entry j of the row of page p, p over 32, is
+//     v_j g_(p-32) (y + x_31) / (y + x_j),   y = α^(255-p),   x_j = α^(254-j),
+// g being the generator's coefficients, the highest power first, and v the weights (Formula.raised-formula).
 ghost use mathlib.Core.Path.{_≡_};
 ghost use Prim.Native.Nat.{_≤_, _<_};
-ghost use lib.ListN.{drop, getD, length};
-ghost use Rattle.pagecode.specs.Code.{generator, remainder};
-ghost use Rattle.pagecode.specs.Matrix.{matrixRow, IsParity, AreRows};
-ghost use Rattle.pagecode.specs.Solve.{allLegal};
+ghost use Rattle.pagecode.specs.Matrix.{matrixRow, AreInverses};
 
 mod generator;
+mod weights;
 
+use crate::field::inverses::INVERSES;
+use crate::field::power;
+use crate::field::powers::POWERS;
 use crate::field::product;
-use crate::sizes::Column;
-use crate::sizes::Columns;
+use crate::field::sum;
 use crate::sizes::MOST_PAGES;
-use crate::sizes::PARITY_OCTETS;
 use crate::sizes::Row;
-use crate::sizes::Square;
 use generator::GENERATOR;
+use weights::WEIGHTS;
 
-const LAST_PARITY: usize = 222;
+const FIRST_PARITY_PAGE: usize = 33;
 
-const LAST_COLUMN: usize = 31;
+const LAST_PAGE: usize = 255;
 
-// One step of the long division by the generator, a 0 brought down: from the parity of x^n to that of x^(n + 1).
-fn next_column(c: Column) -> Column
-    ensures { λ r. ⌜ r ≡ remainder 1 (drop 1 (generator 223)) (c ++ (0 ∷ [])) ⌝ }
+// The power of x that page 1 stands at.
+const FIRST_POWER: usize = 254;
+
+// α^223: page 32 stands at x^223.
+const LAST_NODE: u8 = 9;
+
+// The inverses of y + α^254, y + α^253, .. y + α^223.
+fn invert_sums(y: u8) -> Row
+    ensures { λ r. ⌜ AreInverses y r ⌝ }
 {
-    let table = GENERATOR;
-    let f = c[0];
-    let mut d = [0u8; PARITY_OCTETS];
-    let mut i: usize = 0;
-    while i < LAST_PARITY {
-        d[i] = c[i + 1] ^ product(table[i], f);
-        i += 1;
-    }
-    d[LAST_PARITY] = product(table[LAST_PARITY], f);
-    d
-}
-
-// The dense part of the matrix, by columns: the last is the generator's own, each other comes from the one behind it.
-pub fn code_matrix() -> Columns
-    ensures { λ r. ⌜ IsParity r ⌝ }
-{
-    let mut columns = [[0u8; PARITY_OCTETS]; MOST_PAGES];
-    let mut c = GENERATOR;
-    let mut i: usize = 0;
-    while i < MOST_PAGES {
-        columns[LAST_COLUMN - i] = c;
-        let d = next_column(c);
-        c = d;
-        i += 1;
-    }
-    columns
-}
-
-// The row of page p: of the first 32 a unit row, of the others a row of the dense part.
-pub fn matrix_row(columns: &Columns, p: usize) -> Row
-    requires { ⌜ (1 ≤ p) × (p ≤ 255) × IsParity (now columns) ⌝ }
-    ensures { λ r. ⌜ r ≡ matrixRow p ⌝ }
-{
+    let powers = POWERS;
+    let inverses = INVERSES;
     let mut row = [0u8; MOST_PAGES];
-    if p <= 32 {
-        row[p - 1] = 1;
-        return row;
-    }
     let mut j: usize = 0;
     while j < MOST_PAGES {
-        row[j] = columns[j][p - 33];
+        let s = sum(y, powers[FIRST_POWER - j]);
+        row[j] = inverses[s as usize];
         j += 1;
     }
     row
 }
 
-// The rows of the pages with these numbers, and rows of 0 behind them.
-pub fn matrix_rows(numbers: &[u64]) -> Square
-    requires { ⌜ (length (now numbers) ≤ 32) × (allLegal (length (now numbers)) (now numbers) ≡ true) ⌝ }
-    ensures { λ r. ⌜ AreRows (now (numbers .entry)) r ⌝ }
+// The row of page p of the dense part, by the formula.
+fn parity_row(p: usize) -> Row
+    requires { ⌜ (33 ≤ p) × (p ≤ 255) ⌝ }
+    ensures { λ r. ⌜ r ≡ matrixRow p ⌝ }
 {
-    let columns = code_matrix();
-    let mut rows = [[0u8; MOST_PAGES]; MOST_PAGES];
-    let mut i: usize = 0;
-    while i < numbers.len() {
-        let p = numbers[i] as usize;
-        rows[i] = matrix_row(&columns, p);
-        i += 1;
+    let weights = WEIGHTS;
+    let y = power((LAST_PAGE - p) as u64);
+    let f = product(GENERATOR[p - FIRST_PARITY_PAGE], sum(y, LAST_NODE));
+    let inverses = invert_sums(y);
+    let mut row = [0u8; MOST_PAGES];
+    let mut j: usize = 0;
+    while j < MOST_PAGES {
+        row[j] = product(product(inverses[j], weights[j]), f);
+        j += 1;
     }
-    rows
+    row
+}
+
+// The row of page p: of the first 32 a unit row, of the others a row of the dense part.
+pub fn matrix_row(p: usize) -> Row
+    requires { ⌜ (1 ≤ p) × (p ≤ 255) ⌝ }
+    ensures { λ r. ⌜ r ≡ matrixRow p ⌝ }
+{
+    if p > MOST_PAGES {
+        return parity_row(p);
+    }
+    let mut row = [0u8; MOST_PAGES];
+    row[p - 1] = 1;
+    row
 }

@@ -6,13 +6,12 @@ ghost use lib.ListN.{drop, length, take};
 ghost use Rattle.pagecode.specs.Code.{plus, scale};
 ghost use Rattle.pagecode.specs.Page.{content, headerOctets};
 use crate::field::product;
-use crate::matrix::code_matrix;
 use crate::matrix::matrix_row;
 use crate::sizes::CONTENT_OCTETS;
 use crate::sizes::Content;
 
 // Adds f times page i + 1 of the message.
-fn add_page(sum: Content, message: &[u8], i: usize, f: u8) -> Content
+pub fn add_page(sum: Content, message: &[u8], i: usize, f: u8) -> Content
     requires { ⌜ (i < 32) × (i * 53 + 53 ≤ length (now message)) ⌝ }
     ensures { λ r. ⌜ r ≡ plus sum (scale f (take 53 (drop (i * 53) (now (message .entry))))) ⌝ }
 {
@@ -30,8 +29,7 @@ pub fn page_content(message: &[u8], k: usize, p: usize) -> Content
     requires { ⌜ (k ≤ 32) × (length (now message) ≡ k * 53) × (1 ≤ p) × (p ≤ 255) ⌝ }
     ensures { λ r. ⌜ r ≡ content k (now (message .entry)) p ⌝ }
 {
-    let columns = code_matrix();
-    let row = matrix_row(&columns, p);
+    let row = matrix_row(p);
     let mut c = [0u8; CONTENT_OCTETS];
     let mut i: usize = 0;
     while i < k {

@@ -9,9 +9,6 @@ pub const PAGE_OCTETS: usize = 56;
 // The most pages of a message, and the information octets of the code.
 pub const MOST_PAGES: usize = 32;
 
-// The parity octets of the code.
-pub const PARITY_OCTETS: usize = 223;
-
 // The longest message, which is the buffer of every solving call.
 pub const MESSAGE_OCTETS: usize = 1696;
 
@@ -23,8 +20,3 @@ pub type Row = [u8; MOST_PAGES];
 
 // The square that solving works on.
 pub type Square = [Row; MOST_PAGES];
-
-// A column of the generator matrix's dense part, and all of them.
-pub type Column = [u8; PARITY_OCTETS];
-
-pub type Columns = [Column; MOST_PAGES];

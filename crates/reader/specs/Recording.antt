@@ -15,12 +15,12 @@ use Rattle.reader.specs.declared.emit.Cursor.{Cursor}
 use Rattle.reader.specs.declared.emit.CellCursor.{CellCursor}
 use Rattle.mt1.specs.Parse.{systems}
 use Rattle.mt1.specs.Message.{System, count, countBefore, cellsOf, Subset, Block, Message}
-use Rattle.mt1.specs.Mt1.{known, system, iodBits, clocks, subset}
+use Rattle.mt1.specs.Mt1.{known, iodBits, clocks, subset}
 use Rattle.mt1.proofs.Spans.{Span}
 use Rattle.mt1.specs.Encode.{each, orbitBits, phaseBits}
 use Rattle.mt1.specs.Valid.{SystemOk, Row, OrbitOk, PhaseOk}
 use Rattle.mt1.specs.Records.{at, multiplierOf, body, subsetOf}
-use Rattle.reader.specs.Steps.{systemPlan, blocks, Stands, bodyBits, partBits}
+use Rattle.reader.specs.Steps.{systemPlan, Stands, bodyBits, partBits}
 
 -- ---- the rows of the system at place p
 abbrev pub row : {A : Type 0} → Option (Block (List (List A))) → ℕ → Option (List A)

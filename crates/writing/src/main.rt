@@ -1,6 +1,5 @@
 // Reads records of 16 octets from standard input, and writes their message, with no mask lent, in capital hex, a page a line, or the refusal (document 01, Records).
 ghost use mathlib.Core.Path.{_≡_};
-ghost use Prim.Native.Nat.{_≤_};
 ghost use lib.ListN.{length};
 ghost use Rattle.io.specs.Counts.{Counts};
 use libc::STDIN_FILENO;
@@ -12,29 +11,26 @@ use writer::WriteAnswer;
 // The octets that are kept: a record more than the longest list has.
 const KEPT: usize = 21824;
 
-// The digit of a number below 16, in capitals.
-fn digit(n: u8) -> u8
-    requires { ⌜ n ≤ 15 ⌝ }
-{
-    if n < 10 { b'0' + n } else { b'A' + (n - 10) }
-}
+// The octets of a message that a page has.
+const PAGE_OCTETS: usize = 53;
 
-fn print_octet(x: u8) {
-    let text = [digit(x / 16), digit(x % 16)];
-    io::write_all(STDOUT_FILENO, &text);
+fn print_page(octets: &[u8]) {
+    let mut text = [0u8; 106];
+    let n = hex::spell(octets, &mut text);
+    io::write_all(STDOUT_FILENO, &text[..n]);
+    io::write_all(STDOUT_FILENO, b"\n");
 }
 
 // The first n pages, a line each.
 fn print_pages(message: &[u8], n: u64) {
     let mut i: usize = 0;
-    while i < message.len() {
-        if i as u64 / 53 >= n {
+    while i < message.len() / PAGE_OCTETS {
+        if i as u64 >= n {
             return;
         }
-        print_octet(message[i]);
-        if i % 53 == 52 {
-            io::write_all(STDOUT_FILENO, b"\n");
-        }
+        let start = PAGE_OCTETS * i;
+        let end = start + PAGE_OCTETS;
+        print_page(&message[start..end]);
         i += 1;
     }
 }

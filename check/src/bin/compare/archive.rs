@@ -2,10 +2,6 @@
 //! Each pointer comes from a slice and goes with that slice's own length.
 
 use check::calls::Calls;
-#[cfg(feature = "drives")]
-use check::calls::HEAD_OCTETS;
-#[cfg(not(feature = "drives"))]
-use check::calls::Own;
 
 extern "C" {
     fn has_encode_page(
@@ -37,10 +33,6 @@ extern "C" {
         m: usize,
     ) -> u64;
     fn has_reference_time(second: u64, time_of_hour: u64) -> u64;
-}
-
-#[cfg(feature = "drives")]
-extern "C" {
     fn has_replay(timeout: u64, entries: *const u8, n: usize, log: *mut u8, m: usize) -> u64;
     fn has_start(head: *mut u8, hn: usize, store: *mut u8, sn: usize, timeout: u64) -> u64;
     fn has_feed(
@@ -56,7 +48,7 @@ extern "C" {
     ) -> u64;
 }
 
-/// The proved library. Without the feature `drives` the calls that keep a collector are the independent ones here too.
+/// The proved library.
 pub struct Archive;
 
 impl Calls for Archive {
@@ -94,27 +86,14 @@ impl Calls for Archive {
         unsafe { has_reference_time(second, time_of_hour) }
     }
 
-    #[cfg(feature = "drives")]
     fn replay(&self, timeout: u64, entries: &[u8], log: &mut [u8]) -> u64 {
         unsafe { has_replay(timeout, entries.as_ptr(), entries.len(), log.as_mut_ptr(), log.len()) }
     }
 
-    #[cfg(not(feature = "drives"))]
-    fn replay(&self, timeout: u64, entries: &[u8], log: &mut [u8]) -> u64 {
-        Own.replay(timeout, entries, log)
-    }
-
-    #[cfg(feature = "drives")]
     fn start(&self, head: &mut [u8], store: &mut [u8], timeout: u64) -> u64 {
         unsafe { has_start(head.as_mut_ptr(), head.len(), store.as_mut_ptr(), store.len(), timeout) }
     }
 
-    #[cfg(not(feature = "drives"))]
-    fn start(&self, head: &mut [u8], store: &mut [u8], timeout: u64) -> u64 {
-        Own.start(head, store, timeout)
-    }
-
-    #[cfg(feature = "drives")]
     fn feed(&self, head: &mut [u8], store: &mut [u8], second: u64, page: &[u8], out: &mut [u8]) -> u64 {
         unsafe {
             has_feed(
@@ -129,18 +108,6 @@ impl Calls for Archive {
                 out.len(),
             )
         }
-    }
-
-    #[cfg(not(feature = "drives"))]
-    fn feed(&self, head: &mut [u8], store: &mut [u8], second: u64, page: &[u8], out: &mut [u8]) -> u64 {
-        Own.feed(head, store, second, page, out)
-    }
-
-    fn head_octets(&self) -> usize {
-        #[cfg(feature = "drives")]
-        return HEAD_OCTETS;
-        #[cfg(not(feature = "drives"))]
-        Own.head_octets()
     }
 
     fn name(&self) -> &'static str {

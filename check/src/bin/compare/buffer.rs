@@ -16,6 +16,12 @@ impl Buffer {
         self.octets.extend((0..length + 2 * STRIP).map(|i| (i as u8).wrapping_mul(37).wrapping_add(start)));
     }
 
+    /// Takes these octets, and a new pattern around them.
+    pub fn hold(&mut self, octets: &[u8], turn: u64) {
+        self.fill(octets.len(), turn);
+        self.lent().copy_from_slice(octets);
+    }
+
     /// The part that is lent.
     pub fn lent(&mut self) -> &mut [u8] {
         let end = self.octets.len() - STRIP;

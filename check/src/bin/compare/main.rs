@@ -7,6 +7,7 @@ mod archive;
 mod both;
 mod buffer;
 mod drives;
+mod images;
 mod messages;
 mod pages;
 mod pair;
@@ -31,9 +32,6 @@ fn main() -> ExitCode {
     };
     let mut both = Both::new(&Own, RIGHT);
     println!("left: {}, right: {}, seed {seed}", both.left.name(), both.right.name());
-    if cfg!(all(feature = "archive", not(feature = "drives"))) {
-        println!("replay, start and feed are not in the archive: there both sides are the independent one");
-    }
     let start = Instant::now();
     if let Err(text) = compare(&mut both, seed, times as usize) {
         println!("{text}");
@@ -55,7 +53,7 @@ fn main() -> ExitCode {
 /// A part of the comparison: its name, what it runs, and how many random rounds.
 type Part = (&'static str, fn(&mut Both, &mut Random, usize) -> Compared<()>, usize);
 
-const PARTS: [Part; 12] = [
+const PARTS: [Part; 14] = [
     ("reference times", pages::reference_times, 250_000),
     ("encoded pages", pages::encode_pages, 130_000),
     ("solved pages", pages::solves, 60_000),
@@ -63,7 +61,9 @@ const PARTS: [Part; 12] = [
     ("wrong lengths", drives::wrong_lengths, 0),
     ("headers", drives::headers, 20_000),
     ("wrong replays", drives::wrong_replays, 500),
-    ("wrong images", drives::wrong_images, 1_000),
+    ("images", images::images, 1_000),
+    ("image octets", images::every_octet, 5),
+    ("flipped images", images::flipped, 1_000),
     ("drives", drives::drives, 3_500),
     ("messages read", messages::reads, 130_000),
     ("lists written", messages::writes, 60_000),

@@ -3,22 +3,46 @@
 use crate::both::{Both, Compared};
 use crate::buffer::{hex, Buffer};
 use crate::table;
-use check::calls::{refusal_of, Calls, NO_IMAGE};
-use check::image::STORE_OCTETS;
+use check::calls::{refusal_of, NO_IMAGE};
+use check::image::{HEAD_OCTETS, STORE_OCTETS};
 use check::inputs::drives::Event;
+use check::inputs::images::Octets;
 
 /// The image of one side.
 #[derive(Clone, Default)]
-pub struct Image {
-    pub head: Buffer,
-    pub store: Buffer,
+struct Image {
+    head: Buffer,
+    store: Buffer,
 }
 
+impl Image {
+    fn differs(&self, other: &Image) -> Option<String> {
+        let head = self.head.differs(&other.head).map(|text| format!("head, {text}"));
+        head.or_else(|| self.store.differs(&other.store).map(|text| format!("store, {text}")))
+    }
+}
+
+/// The images of both sides: as long as nothing differs they have the same octets.
 pub struct Pair {
-    pub images: [Image; 2],
-    timeout: u64,
-    /// The feeds so far, for the report of a difference: second, page, length of the buffer.
-    past: Vec<(u64, Vec<u8>, usize)>,
+    images: [Image; 2],
+}
+
+impl Pair {
+    pub fn octets(&self) -> Octets {
+        Octets { head: self.images[0].head.seen().to_vec(), store: self.images[0].store.seen().to_vec() }
+    }
+}
+
+/// A call with a collector, as it ended on both sides.
+struct Ended<'a> {
+    call: usize,
+    results: [u64; 2],
+    pair: &'a Pair,
+    /// How the output buffers differ.
+    out: Option<String>,
+    /// The image as it was, and whether it had to stay so.
+    before: &'a Image,
+    fixed: bool,
 }
 
 /// Whether a refusal of feed leaves everything unchanged: LENGTH, OUT, SECOND, CLOCK, and no image.
@@ -27,93 +51,77 @@ fn unchanged(refusal: usize) -> bool {
 }
 
 impl Both<'_> {
-    /// Starts a collector on each side, in a head and a store of the right length or of the one given.
-    pub fn start(&mut self, head: Option<usize>, store: Option<usize>, timeout: u64) -> Compared<(u64, Pair)> {
+    /// Starts a collector on each side.
+    pub fn start(&mut self, timeout: u64) -> Compared<Pair> {
+        self.start_in(HEAD_OCTETS, STORE_OCTETS, timeout)
+    }
+
+    /// The same in a head and a store of these lengths.
+    pub fn start_in(&mut self, head: usize, store: usize, timeout: u64) -> Compared<Pair> {
         self.turn += 1;
-        let mut pair = Pair { images: Default::default(), timeout, past: Vec::new() };
-        for (image, side) in pair.images.iter_mut().zip([self.left, self.right]) {
-            image.head.fill(head.unwrap_or(side.head_octets()), self.turn);
-            image.store.fill(store.unwrap_or(STORE_OCTETS), self.turn);
-        }
-        let before = pair.images.clone();
-        let results =
-            self.on_sides(&mut pair, |side, image| side.start(image.head.lent(), image.store.lent(), timeout));
-        // A wrong length writes nothing. A wrong time-out leaves a collector of 1 s.
-        let fixed = refusal_of(results[0]) == 1;
-        self.judge(table::START, results, None, fixed.then_some((&before, &pair.images)))
-            .map_err(|text| format!("{text}\nhead of {head:?}, store of {store:?}, time-out {timeout}"))?;
-        Ok((results[0], pair))
+        let mut before = Image::default();
+        before.head.fill(head, self.turn);
+        before.store.fill(store, self.turn);
+        let mut pair = Pair { images: [before.clone(), before.clone()] };
+        let [left, right] = &mut pair.images;
+        let results = [
+            self.left.start(left.head.lent(), left.store.lent(), timeout),
+            self.right.start(right.head.lent(), right.store.lent(), timeout),
+        ];
+        let fixed = refusal_of(results[0]) != 0;
+        let ended = Ended { call: table::START, results, pair: &pair, out: None, before: &before, fixed };
+        self.judge(ended, || format!("head of {head}, store of {store}, time-out {timeout}"))?;
+        Ok(pair)
+    }
+
+    /// These octets on each side, be they an image or not.
+    pub fn pair(&mut self, octets: &Octets) -> Pair {
+        self.turn += 1;
+        let mut image = Image::default();
+        image.head.hold(&octets.head, self.turn);
+        image.store.hold(&octets.store, self.turn);
+        Pair { images: [image.clone(), image] }
     }
 
     /// Feeds both collectors.
     pub fn feed(&mut self, pair: &mut Pair, event: &Event) -> Compared<u64> {
         self.turn += 1;
-        let mut out = std::mem::take(&mut self.out);
-        out[0].fill(event.out, self.turn);
-        out[1].fill(event.out, self.turn);
-        let before = pair.images.clone();
-        let results = {
-            let mut lent = out.iter_mut();
-            self.on_sides(pair, |side, image| {
-                let out = lent.next().expect("a buffer for each side").lent();
-                side.feed(image.head.lent(), image.store.lent(), event.second, &event.page, out)
-            })
-        };
-        let buffers = out[0].differs(&out[1]);
-        self.out = out;
-        pair.past.push((event.second, event.page.clone(), event.out));
+        let [left_out, right_out] = &mut self.out;
+        left_out.fill(event.out, self.turn);
+        right_out.fill(event.out, self.turn);
+        let before = pair.images[0].clone();
+        let [left, right] = &mut pair.images;
+        let (second, page) = (event.second, &event.page);
+        let results = [
+            self.left.feed(left.head.lent(), left.store.lent(), second, page, left_out.lent()),
+            self.right.feed(right.head.lent(), right.store.lent(), second, page, right_out.lent()),
+        ];
+        let out = left_out.differs(right_out).map(|text| format!("out, {text}"));
         let fixed = unchanged(refusal_of(results[0]));
-        self.judge(table::FEED, results, buffers, fixed.then_some((&before, &pair.images)))
-            .map_err(|text| format!("{text}\n{}", pair.story(&before[1])))?;
+        let ended = Ended { call: table::FEED, results, pair, out, before: &before, fixed };
+        self.judge(ended, || {
+            let (head, store) = (hex(before.head.seen()), hex(before.store.seen()));
+            format!("head {head}\nstore {store}\nsecond {second}, buffer of {}, page {}", event.out, hex(page))
+        })?;
         if let [2, size] = line(results[0]) {
             self.table.count_ready(size as usize);
         }
         Ok(results[0])
     }
 
-    fn on_sides(&self, pair: &mut Pair, mut run: impl FnMut(&dyn Calls, &mut Image) -> u64) -> [u64; 2] {
-        let left = run(self.left, &mut pair.images[0]);
-        let right = run(self.right, &mut pair.images[1]);
-        [left, right]
-    }
-
-    /// Equal results; and where nothing may be written, nothing was.
-    fn judge(
-        &mut self,
-        call: usize,
-        results: [u64; 2],
-        out: Option<String>,
-        fixed: Option<(&[Image; 2], &[Image; 2])>,
-    ) -> Compared<()> {
-        if results[0] != results[1] || out.is_some() {
-            return Err(self.difference(call, results[0], results[1], out, ""));
+    /// Equal results and octets; and where nothing may be written, nothing was.
+    fn judge(&mut self, ended: Ended, input: impl Fn() -> String) -> Compared<()> {
+        let Ended { call, results, pair, out, before, fixed } = ended;
+        let buffers = out.or_else(|| pair.images[0].differs(&pair.images[1]));
+        if results[0] != results[1] || buffers.is_some() {
+            return Err(self.difference(call, results[0], results[1], buffers, &input()));
+        }
+        if let Some(change) = before.differs(&pair.images[0]).filter(|_| fixed) {
+            let change = format!("equal, but the refusal wrote: {change}");
+            return Err(self.difference(call, results[0], results[1], Some(change), &input()));
         }
         self.table.count(call, refusal_of(results[0]));
-        let Some((before, after)) = fixed else {
-            return Ok(());
-        };
-        for (side, name) in [self.left.name(), self.right.name()].iter().enumerate() {
-            let head = before[side].head.differs(&after[side].head);
-            let store = before[side].store.differs(&after[side].store);
-            if head.is_some() || store.is_some() {
-                let change = format!("{name} changed its image: head {head:?}, store {store:?}");
-                return Err(self.difference(call, results[0], results[1], Some(change), ""));
-            }
-        }
         Ok(())
-    }
-}
-
-impl Pair {
-    /// All feeds so far, and the right side's image before the last one.
-    fn story(&self, before: &Image) -> String {
-        let mut lines = vec![format!("time-out {}", self.timeout)];
-        for (second, page, out) in &self.past {
-            lines.push(format!("second {second}, buffer of {out}, page {}", hex(page)));
-        }
-        lines.push(format!("head before {}", hex(before.head.seen())));
-        lines.push(format!("store before {}", hex(before.store.seen())));
-        lines.join("\n")
     }
 }
 

@@ -26,12 +26,12 @@ const CAN: [&[usize]; 9] = [
     &[3, 16],
     &[1, 2, 14],
     &[1, 14],
-    &[1, 2, 3, 4, 5, 6, 7, 8, 9, 10, 11, 12, 13],
+    &[1, 2, 3, 4, 5, 6, 7, 8, 9, 10, 11, 12, 13, 24],
     &[3, 4, 5, 6, 7, 8, 9, 10, 11, 12, 13],
 ];
 
-/// Room for a refusal number of the C interface alone.
-const NUMBERS: usize = 64;
+/// Refusal numbers, and 0 for none.
+const NUMBERS: usize = NAMES.len();
 
 pub struct Table {
     counts: [[u64; NUMBERS]; 9],
@@ -88,7 +88,7 @@ impl Table {
         println!("feed: KEPT {}, READY {ready}", self.counts[FEED][0] - ready);
         println!();
         println!("refusal          answers");
-        for number in 1..26 {
+        for number in 1..NUMBERS {
             let all: u64 = self.counts.iter().map(|counts| counts[number]).sum();
             println!("{number:>2} {:<10} {all:>10}", NAMES[number]);
         }

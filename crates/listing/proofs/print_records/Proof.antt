@@ -1,15 +1,15 @@
--- The measure is how many octets are left.
-use Prim.Native.Nat.{_-_, _≤_}
+-- The measure is how many records are left.
+use Prim.Native.Nat.{_-_, _/_, _≤_}
 use lib.ListN.{length}
 use borrow.Author.Needs.{needs}
 use Rattle.listing.proofs.print_records.Statement.{statement}
 use Rattle.listing.proofs.print_records.Tie as tie
 
 abbrev Inv-loop : tie.InvT-loop
-Inv-loop records n i₀ t4 i = (i ≤ length records)
+Inv-loop records n i₀ i = i ≤ length records / 16
 
 abbrev μ-loop : tie.MeasureT-loop
-μ-loop records n i₀ t4 i = length records - i
+μ-loop records n i₀ i = length records / 16 - i
 
 loop-holds : tie.Need-loop-holds Inv-loop μ-loop
 loop-holds c = search needs
@@ -17,17 +17,23 @@ loop-holds c = search needs
 returns : tie.Need-returns Inv-loop μ-loop
 returns c = search needs
 
-shared-slice-read-print-octet : tie.Need-shared-slice-read-print-octet Inv-loop μ-loop
-shared-slice-read-print-octet c = search needs
+mul-start : tie.Need-mul-start Inv-loop μ-loop
+mul-start c = search needs
 
-print-octet-requires : tie.Need-print-octet-requires Inv-loop μ-loop
-print-octet-requires c κs = search needs
+add-end : tie.Need-add-end Inv-loop μ-loop
+add-end c = search needs
 
-slice-aggregate-write-all : tie.Need-slice-aggregate-write-all Inv-loop μ-loop
-slice-aggregate-write-all c = search needs
+sub-print-record : tie.Need-sub-print-record Inv-loop μ-loop
+sub-print-record c = search needs
 
-write-all-requires : tie.Need-write-all-requires Inv-loop μ-loop
-write-all-requires c κs = search needs
+part-print-record-start : tie.Need-part-print-record-start Inv-loop μ-loop
+part-print-record-start c = search needs
+
+part-print-record-end : tie.Need-part-print-record-end Inv-loop μ-loop
+part-print-record-end c = search needs
+
+print-record-requires : tie.Need-print-record-requires Inv-loop μ-loop
+print-record-requires c κs = search needs
 
 add-i : tie.Need-add-i Inv-loop μ-loop
 add-i c = search needs
@@ -49,10 +55,12 @@ print-records-spec =
     μ-loop
     loop-holds
     returns
-    shared-slice-read-print-octet
-    print-octet-requires
-    slice-aggregate-write-all
-    write-all-requires
+    mul-start
+    add-end
+    sub-print-record
+    part-print-record-start
+    part-print-record-end
+    print-record-requires
     add-i
     loop-less
     loop-again

@@ -1,15 +1,15 @@
--- The measure is how many octets are left.
-use Prim.Native.Nat.{_-_, _≤_}
+-- The measure is how many pages are left.
+use Prim.Native.Nat.{_-_, _/_, _≤_}
 use lib.ListN.{length}
 use borrow.Author.Needs.{needs}
 use Rattle.writing.proofs.print_pages.Statement.{statement}
 use Rattle.writing.proofs.print_pages.Tie as tie
 
 abbrev Inv-loop : tie.InvT-loop
-Inv-loop message n i₀ t4 i = (i ≤ length message)
+Inv-loop message n i₀ i = i ≤ length message / 53
 
 abbrev μ-loop : tie.MeasureT-loop
-μ-loop message n i₀ t4 i = length message - i
+μ-loop message n i₀ i = length message / 53 - i
 
 loop-holds : tie.Need-loop-holds Inv-loop μ-loop
 loop-holds c = search needs
@@ -17,17 +17,23 @@ loop-holds c = search needs
 returns : tie.Need-returns Inv-loop μ-loop
 returns c = search needs
 
-shared-slice-read-print-octet : tie.Need-shared-slice-read-print-octet Inv-loop μ-loop
-shared-slice-read-print-octet c = search needs
+mul-start : tie.Need-mul-start Inv-loop μ-loop
+mul-start c = search needs
 
-print-octet-requires : tie.Need-print-octet-requires Inv-loop μ-loop
-print-octet-requires c κs = search needs
+add-end : tie.Need-add-end Inv-loop μ-loop
+add-end c = search needs
 
-slice-aggregate-write-all : tie.Need-slice-aggregate-write-all Inv-loop μ-loop
-slice-aggregate-write-all c = search needs
+sub-print-page : tie.Need-sub-print-page Inv-loop μ-loop
+sub-print-page c = search needs
 
-write-all-requires : tie.Need-write-all-requires Inv-loop μ-loop
-write-all-requires c κs = search needs
+part-print-page-start : tie.Need-part-print-page-start Inv-loop μ-loop
+part-print-page-start c = search needs
+
+part-print-page-end : tie.Need-part-print-page-end Inv-loop μ-loop
+part-print-page-end c = search needs
+
+print-page-requires : tie.Need-print-page-requires Inv-loop μ-loop
+print-page-requires c κs = search needs
 
 add-i : tie.Need-add-i Inv-loop μ-loop
 add-i c = search needs
@@ -49,10 +55,12 @@ print-pages-spec =
     μ-loop
     loop-holds
     returns
-    shared-slice-read-print-octet
-    print-octet-requires
-    slice-aggregate-write-all
-    write-all-requires
+    mul-start
+    add-end
+    sub-print-page
+    part-print-page-start
+    part-print-page-end
+    print-page-requires
     add-i
     loop-less
     loop-again

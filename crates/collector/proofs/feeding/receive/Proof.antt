@@ -1,5 +1,6 @@
 -- What is judged decides the case: a refusal, STOP, whose store is all zeros, or the page to hold.
-use mathlib.Core.Path.{refl, sym, _∙_, subst}
+use mathlib.Core.Path.{refl, sym, ap, _∙_, subst}
+use Prim.Native.Nat.{ℕ}
 use borrow.Author.Needs.{needs}
 use lib.ListN.{replicate}
 use Rattle.refusal.specs.declared.Refusal.the-variants.{Stop}
@@ -24,9 +25,7 @@ enum-told : tie.Need-enum-told
 enum-told c = search needs
 
 clear-store-requires : tie.Need-clear-store-requires
-clear-store-requires c κs =
-    let a = c .before .before .before .before .before .before .before in
-    store-long (a .pre .2 .1)
+clear-store-requires c κs = search needs
 
 free-places-requires : tie.Need-free-places-requires
 free-places-requires c κs = search needs
@@ -73,11 +72,12 @@ returns-2 c m s =
     let k = p .before .before .before in
     let d = k .before .before in
     let j = d .before .before in
-    let a = j .before .before .before .before .args in
+    let b = j .before .before .before .before in
+    let a = b .args in
     refuses _ Stop (record { timeout = m .timeout; last = m .last; places = replicate 8 free }) (n .with-places .result) (k .clear-store .last .0) (a .out .now) (c .refuse2 .result)
     (receives-stop m (a .second) (judge (a .page .now)) (sym (j .judge-page .ensures) ∙ d .enum-told .given .1))
     (next-head m (a .head) (n .with-places .result) (a .head .last) (m .last) (p .free-places .result) (replicate 8 free) (s .head) (state-last m (a .head) (a .store .now) s) (p .free-places .ensures) (n .with-places .ensures))
-    (k .clear-store .ensures ∙ sym (store-none 8 13568 refl)) (c .refuse2 .ensures)
+    (k .clear-store .ensures ∙ ap (λ (n : ℕ). replicate n 0) (store-long (b .pre .2 .1)) ∙ sym (store-none 8 13568 refl)) (c .refuse2 .ensures)
 
 same-length-2 : tie.Need-same-length-2
 same-length-2 c = search needs

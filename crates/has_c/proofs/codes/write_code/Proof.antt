@@ -1,7 +1,10 @@
 -- Each arm answers for its case.
-use mathlib.Core.Path.{sym, ap, _∙_}
+use Prim.Native.Nat.{_<_}
+use native.Mathlib.Omega.{arith}
+use mathlib.Core.Path.{sym, subst}
 use borrow.Author.Needs.{needs}
-use Rattle.has_c.specs.Codes.{writeCode}
+use Rattle.writer.specs.declared.writing.WriteAnswer.{WriteAnswer}
+use Rattle.has_c.specs.Codes.{Is, writeCode}
 use Rattle.has_c.proofs.codes.write_code.Statement.{statement}
 use Rattle.has_c.proofs.codes.write_code.Tie as tie
 
@@ -9,7 +12,7 @@ enum-known-answer : tie.Need-enum-known-answer
 enum-known-answer c = search needs
 
 coded-requires : tie.Need-coded-requires
-coded-requires c κs = search needs
+coded-requires c κs = (omega arith, subst (λ (a : WriteAnswer). writeCode a .value < 4294967296) (c .before .answer .given .1) (c .before .before .before .pre))
 
 enum-known-answer-2 : tie.Need-enum-known-answer-2
 enum-known-answer-2 c = search needs
@@ -18,10 +21,10 @@ refused-requires : tie.Need-refused-requires
 refused-requires c κs = search needs
 
 returns : tie.Need-returns
-returns c = c .coded .ensures ∙ sym (ap writeCode (c .before .before .answer .given .1))
+returns c = subst (λ (a : WriteAnswer). Is (writeCode a) (c .coded .result)) (sym (c .before .before .answer .given .1)) (c .coded .ensures)
 
 returns-2 : tie.Need-returns-2
-returns-2 c = c .refused .ensures ∙ sym (ap writeCode (c .before .before .answer2 .given .1))
+returns-2 c = subst (λ (a : WriteAnswer). Is (writeCode a) (c .refused .result)) (sym (c .before .before .answer2 .given .1)) (c .refused .ensures)
 
 pub write-code-spec : {M : Type 1} → statement M
 write-code-spec = tie.close (tie.spec enum-known-answer coded-requires enum-known-answer-2 refused-requires returns returns-2)

@@ -20,16 +20,13 @@ Inv-loop message k p row c₀ i₀ c i = Inv message k p c i
 abbrev μ-loop : tie.MeasureT-loop
 μ-loop message k p row c₀ i₀ c i = k - i
 
-code-matrix-requires : tie.Need-code-matrix-requires Inv-loop μ-loop
-code-matrix-requires c κs = search needs
-
 matrix-row-requires : tie.Need-matrix-row-requires Inv-loop μ-loop
-matrix-row-requires c κs = (search needs, search needs, c .before .code-matrix .ensures)
+matrix-row-requires c κs = search needs
 
 loop-holds : tie.Need-loop-holds Inv-loop μ-loop
 loop-holds c =
-    let a = c .before .before .before .before .args in
-    let o : Octets (a .message .now) = λ i. c .before .before .before .shared-slice-known .given i .fits in
+    let a = c .before .before .args in
+    let o : Octets (a .message .now) = λ i. c .before .shared-slice-known .given i .fits in
     record { is = content-none (a .message .now) o (a .p); upto = search needs }
 
 array-read-f : tie.Need-array-read-f Inv-loop μ-loop
@@ -46,8 +43,8 @@ loop-less c = search needs
 
 loop-again : tie.Need-loop-again Inv-loop μ-loop
 loop-again c =
-    let a = c .before .before .before .before .before .before .before .args in
-    let o : Octets (a .message .now) = λ i. c .before .before .before .before .before .before .shared-slice-known .given i .fits in
+    let a = c .before .before .before .before .before .args in
+    let o : Octets (a .message .now) = λ i. c .before .before .before .before .shared-slice-known .given i .fits in
     let row = c .before .before .before .matrix-row in
     let l = c .before .before .loop in
     record {
@@ -57,7 +54,7 @@ loop-again c =
 
 returns : tie.Need-returns Inv-loop μ-loop
 returns c =
-    let a = c .before .before .before .before .before .before .args in
+    let a = c .before .before .before .before .args in
     let l = c .before .loop in
     let all : l .i ≡ a .k = omega arith in
     l .inv .is ∙ ap (λ (i : ℕ). content i (a .message .now) (a .p)) all
@@ -68,7 +65,6 @@ page-content-spec =
     (tie.spec
     Inv-loop
     μ-loop
-    code-matrix-requires
     matrix-row-requires
     loop-holds
     array-read-f

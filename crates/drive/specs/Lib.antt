@@ -1,0 +1,2 @@
+pub mod Drive
+pub mod Steps
