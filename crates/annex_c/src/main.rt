@@ -1,4 +1,6 @@
 // Solves the example of the ICD's Annex C: 15 pages off the air give the message, the message gives the 15 pages again, it is read, and its records are written to it again.
+#![tactic(auto)]
+
 mod pages;
 
 ghost use Rattle.std.specs.Prelude.{◌≤◌};

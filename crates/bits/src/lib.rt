@@ -1,4 +1,6 @@
 // Bits of octets, numbered from 0, the most significant first (document 01, What the box does).
+#![tactic(auto)]
+
 ghost use Rattle.std.specs.Prelude.{◌≡◌, false, ◌+◌, ◌*◌, ◌/◌, ◌-◌, ◌^◌, ◌%◌, ◌≤◌, ◌<◌, min, length, get_or, take, drop, set};
 ghost use Rattle.lists.specs.Lists.{laid};
 ghost use Rattle.bits.specs.Bits.{num, odd, bits, value, bits_of, octets_of, fits_in, is_number, number_at, put_at};

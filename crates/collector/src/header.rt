@@ -9,7 +9,7 @@ use crate::state::Key;
 use refusal::Refusal;
 
 // A refusal; a status 3 page; or a page to hold, by its key and its number.
-#[derive(Drop)]
+#[derive(Clone, Copy)]
 pub enum Judged {
     Bad(Refusal),
     Stop,

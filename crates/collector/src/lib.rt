@@ -1,4 +1,6 @@
 // The collector (document 01, The collector): pages are held until a message is solved.
+#![tactic(auto)]
+
 mod checking;
 mod clock;
 mod feeding;

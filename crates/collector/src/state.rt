@@ -12,7 +12,7 @@ pub const STORE_OCTETS: usize = 13568;
 // The last second that a feed takes.
 pub const LAST_SECOND: u64 = 2477260799;
 
-#[derive(Drop)]
+#[derive(Clone, Copy)]
 pub struct Key {
     pub status: u8,
     pub number: u8,
@@ -20,7 +20,7 @@ pub struct Key {
 }
 
 // Open: the key, the second of the first page, how many pages are held. Done: the key and that second.
-#[derive(Drop)]
+#[derive(Clone, Copy)]
 pub enum PlaceState {
     Free,
     Open(Key, u64, usize),
@@ -28,14 +28,14 @@ pub enum PlaceState {
 }
 
 // A place's state and the numbers of its pages in order of arrival.
-#[derive(Drop)]
+#[derive(Clone, Copy)]
 pub struct Place {
     pub state: PlaceState,
     pub numbers: [u8; 32],
 }
 
 // The clock and the places: the collector without its store.
-#[derive(Drop)]
+#[derive(Clone, Copy)]
 pub struct Head {
     pub timeout: u64,
     pub last: u64,
@@ -49,14 +49,14 @@ pub struct Collector {
 }
 
 // What a feed answers: the count of different numbers now held, the size of the message that is solved, or the refusal.
-#[derive(Drop)]
+#[derive(Clone, Copy)]
 pub enum Fed {
     Kept(u64),
     Ready(u64),
     Refused(Refusal),
 }
 
-#[derive(Drop)]
+#[derive(Clone, Copy)]
 pub struct FedHead {
     pub answer: Fed,
     pub head: Head,

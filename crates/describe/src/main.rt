@@ -1,4 +1,6 @@
 // Reads the octets of a message from standard input, with no mask lent, and says in words what it holds, or why it is refused.
+#![tactic(auto)]
+
 ghost use Rattle.std.specs.Prelude.{◌≤◌, ◌<◌, ◌*◌};
 
 mod amount;

@@ -26,7 +26,7 @@ const READY: u8 = 2;
 const REFUSED: u8 = 3;
 
 // The head after an entry, and where the log then ends.
-#[derive(Drop)]
+#[derive(Clone, Copy)]
 pub struct Turn {
     pub head: Head,
     pub end: usize,

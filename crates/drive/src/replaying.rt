@@ -9,7 +9,7 @@ use refusal::Refusal;
 const MOST_OCTETS: usize = 4294967296;
 
 // What `replay` answers: how many octets of log it wrote, or the refusal.
-#[derive(Drop)]
+#[derive(Clone, Copy)]
 pub enum Replayed {
     Octets(u64),
     Refused(Refusal),

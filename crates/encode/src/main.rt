@@ -3,6 +3,8 @@
 //
 // Nothing is printed by halves: if any page is refused, the first refusal is all that is printed. No page asked for, and input that ends before the page
 // numbers do, are LENGTH, as is a message that is not 1 to 32 pages of 53 octets.
+#![tactic(auto)]
+
 ghost use Rattle.std.specs.Prelude.{◌≡◌, ◌+◌, ◌≤◌};
 ghost use Rattle.pagecode.specs.Encode.{encode_answer};
 ghost use Rattle.encode.specs.Pages.{pages_answer};
@@ -33,7 +35,7 @@ fn print_refused(why: Refusal) {
 
 fn print_page(page: [u8; PAGE_OCTETS]) {
     let mut text = [0u8; 112];
-    let n = hex::spell(&page, &mut text);
+    let n = hex_text::spell(&page, &mut text);
     io::write_all(STDOUT_FILENO, &text[..n]);
     io::write_all(STDOUT_FILENO, b"\n");
 }

@@ -1,4 +1,6 @@
 // Runs a script of feeds through the collector and prints each answer: KEPT and READY with their numbers, a refusal with its number.
+#![tactic(auto)]
+
 ghost use Rattle.std.specs.Prelude.{◌≤◌};
 ghost use Rattle.collector.specs.Image.{Made};
 

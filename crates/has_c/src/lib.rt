@@ -1,4 +1,6 @@
 // The box for C: include/has.h says each call in C's terms. A slice is a pointer and a length.
+#![tactic(auto)]
+
 mod codes;
 
 ghost use Rattle.std.specs.Prelude.{◌≡◌, ◌≤◌, length, take};

@@ -1,4 +1,6 @@
 // Reads the octets of a message from standard input, with no mask lent, and lists its records in capital hex, or the refusal (document 01, Checked by hand).
+#![tactic(auto)]
+
 use libc::STDOUT_FILENO;
 use mt1::RefusalAt;
 use reader::{RECORDS_OCTETS, ReadAnswer};
@@ -7,7 +9,7 @@ const RECORD_OCTETS: usize = 16;
 
 fn print_record(octets: &[u8]) {
     let mut text = [0u8; 32];
-    let n = hex::spell(octets, &mut text);
+    let n = hex_text::spell(octets, &mut text);
     io::write_all(STDOUT_FILENO, &text[..n]);
     io::write_all(STDOUT_FILENO, b"\n");
 }

@@ -5,7 +5,7 @@ ghost use Rattle.mt1.specs.Parse.{refuse as refuse_at};
 use refusal::Refusal;
 
 // A refusal and the bit place that it names.
-#[derive(Drop)]
+#[derive(Clone, Copy)]
 pub struct RefusalAt {
     pub why: Refusal,
     pub place: usize,
@@ -21,14 +21,14 @@ pub fn refuse(why: Refusal, place: usize) -> RefusalAt
 }
 
 // The seconds of a validity interval.
-#[derive(Drop)]
+#[derive(Clone, Copy)]
 pub enum IntervalAnswer {
     Seconds(u64),
     Refused(Refusal),
 }
 
 // A reference time, in seconds.
-#[derive(Drop)]
+#[derive(Clone, Copy)]
 pub enum TimeAnswer {
     At(u64),
     Refused(Refusal),

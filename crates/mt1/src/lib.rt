@@ -1,4 +1,6 @@
 // Message type 1 (document 01, Message type 1 and Records): its definitions in specs/, the refusal that the reader answers, the validity intervals and the reference time.
+#![tactic(auto)]
+
 mod answer;
 mod interval;
 mod time;

@@ -1,4 +1,6 @@
 // The lower layer (document 01, The page, and The page code): a page of a message is encoded, and pages are solved.
+#![tactic(auto)]
+
 ghost use Rattle.std.specs.Prelude.{◌≡◌};
 ghost use Rattle.pagecode.specs.Answer.{answer_number};
 
@@ -20,7 +22,7 @@ use refusal::Refusal;
 pub use solving::solve;
 
 // What a call answers: that it is done, or the refusal.
-#[derive(Drop)]
+#[derive(Clone, Copy)]
 pub enum Answer {
     Good,
     Refused(Refusal),

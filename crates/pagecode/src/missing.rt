@@ -8,7 +8,7 @@ use crate::sizes::{MOST_PAGES, Row};
 const LAST_PLAIN: u64 = 32;
 
 // Places of a row, counted from 1: those of the noughts, how many these are, and those of the others.
-#[derive(Drop)]
+#[derive(Clone, Copy)]
 pub struct Places {
     pub noughts: Row,
     pub count: usize,

@@ -10,7 +10,7 @@ use mt1::{IntervalAnswer, interval_seconds, refuse};
 use refusal::Refusal;
 
 // The widths of an item's fields in their order, 0 behind the last.
-#[derive(Drop)]
+#[derive(Clone, Copy)]
 pub struct Widths {
     pub a: usize,
     pub b: usize,

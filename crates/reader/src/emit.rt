@@ -14,7 +14,7 @@ use crate::plan::{Plan, iod_bits};
 use crate::record::{Rows, cell_record, header_record, onward, satellite_record, system_record};
 
 // How many of a system's satellites, chosen satellites and cells have come, and of the records' octets.
-#[derive(Drop)]
+#[derive(Clone, Copy)]
 pub struct Cursor {
     pub satellite: usize,
     pub chosen: usize,
@@ -23,7 +23,7 @@ pub struct Cursor {
 }
 
 // In a satellite's row: how many signals, cells and octets have come.
-#[derive(Drop)]
+#[derive(Clone, Copy)]
 pub struct CellCursor {
     pub signal: usize,
     pub cell: usize,

@@ -9,14 +9,14 @@ use mt1::{RefusalAt, refuse};
 use refusal::Refusal;
 
 // A field's answer: its number, or the refusal with its place.
-#[derive(Drop)]
+#[derive(Clone, Copy)]
 pub enum Field {
     Got(u64),
     Refused(RefusalAt),
 }
 
 // What is passed over: the place behind it, or the refusal with its place.
-#[derive(Drop)]
+#[derive(Clone, Copy)]
 pub enum Step {
     At(usize),
     Refused(RefusalAt),

@@ -1,4 +1,6 @@
 // The reader of message type 1 (document 01, Message type 1): a message of 53k octets to its records.
+#![tactic(auto)]
+
 mod block;
 mod emit;
 mod field;

@@ -12,7 +12,7 @@ use mt1::{RefusalAt, refuse};
 use refusal::Refusal;
 
 // A system of a mask: its GNSS ID, the place of its satellite mask, how many satellites, signals and cells it has, its cell flag.
-#[derive(Drop)]
+#[derive(Clone, Copy)]
 pub struct SystemPlan {
     pub id: u64,
     pub place: usize,
@@ -23,20 +23,20 @@ pub struct SystemPlan {
 }
 
 // The systems of a mask; the second is all 0 where there is one system.
-#[derive(Drop)]
+#[derive(Clone, Copy)]
 pub struct MaskPlan {
     pub systems: usize,
     pub first: SystemPlan,
     pub second: SystemPlan,
 }
 
-#[derive(Drop)]
+#[derive(Clone, Copy)]
 pub enum SystemRead {
     Got(SystemPlan, usize),
     Refused(RefusalAt),
 }
 
-#[derive(Drop)]
+#[derive(Clone, Copy)]
 pub enum MaskRead {
     Got(MaskPlan, usize),
     Refused(RefusalAt),

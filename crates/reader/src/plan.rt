@@ -15,7 +15,7 @@ use mt1::{RefusalAt, refuse};
 use refusal::Refusal;
 
 // Where the blocks stand, each by its interval; 0 for one that is not there. `lent`: the mask is the lent one.
-#[derive(Drop)]
+#[derive(Clone, Copy)]
 pub struct Plan {
     pub lent: bool,
     pub mask: MaskPlan,
@@ -27,7 +27,7 @@ pub struct Plan {
     pub phase: usize,
 }
 
-#[derive(Drop)]
+#[derive(Clone, Copy)]
 pub enum PlanRead {
     Got(Plan),
     Refused(RefusalAt),

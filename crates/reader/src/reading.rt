@@ -14,7 +14,7 @@ pub const RECORDS_OCTETS: usize = 21808;
 pub const MOST_OCTETS: usize = 20480;
 
 // What `read` and `read_octets` answer: how many records they wrote, or the refusal with its place.
-#[derive(Drop)]
+#[derive(Clone, Copy)]
 pub enum ReadAnswer {
     Records(u64),
     Refused(RefusalAt),

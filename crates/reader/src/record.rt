@@ -12,7 +12,7 @@ use crate::mask::SystemPlan;
 use crate::plan::Plan;
 
 // Where the rows of one system stand; 0 for one that is not there. `iod`: how many bits a reference IOD has.
-#[derive(Drop)]
+#[derive(Clone, Copy)]
 pub struct Rows {
     pub iod: usize,
     pub orbit: usize,

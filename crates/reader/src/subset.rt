@@ -12,19 +12,19 @@ use mt1::{RefusalAt, refuse};
 use refusal::Refusal;
 
 // Where the parts of the mask's first and second system stand, behind their GNSS IDs; 0 for one that is not in the subset.
-#[derive(Drop)]
+#[derive(Clone, Copy)]
 pub struct SubsetPlan {
     pub first: usize,
     pub second: usize,
 }
 
-#[derive(Drop)]
+#[derive(Clone, Copy)]
 pub enum PartRead {
     Got(SubsetPlan, u64, usize),
     Refused(RefusalAt),
 }
 
-#[derive(Drop)]
+#[derive(Clone, Copy)]
 pub enum SubsetRead {
     Got(SubsetPlan, usize),
     Refused(RefusalAt),

@@ -1,5 +1,7 @@
 // Reads a script of messages, each with a lent mask, and prints what each reading answers and a digest of the whole buffer behind it:
 // every refusal of the reader with its place, cut messages, lent masks.
+#![tactic(auto)]
+
 ghost use Rattle.std.specs.Prelude.{◌≤◌, ◌<◌};
 
 mod script;

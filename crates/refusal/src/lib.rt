@@ -1,10 +1,12 @@
 // The refusals of document 01 ("Refusal numbers"): one enum, and the number and the name of each case.
+#![tactic(auto)]
+
 ghost use Rattle.std.specs.Prelude.{◌≡◌};
 ghost use Rattle.refusal.specs.Name.{name_of};
 ghost use Rattle.refusal.specs.Number.{number_of};
 
 // TYPE is named Kind: `Type` is a word of the language of the contracts.
-#[derive(Drop)]
+#[derive(Clone, Copy)]
 pub enum Refusal {
     Length,
     Out,

@@ -55,7 +55,7 @@ fn print_kept(n: u64) {
 fn print_ready(page: &[u8], message: [u8; MESSAGE_OCTETS]) {
     let size = size_of(page);
     let mut text = [0u8; DIGITS];
-    let n = hex::spell(&message[..size as usize * CONTENT_OCTETS], &mut text);
+    let n = hex_text::spell(&message[..size as usize * CONTENT_OCTETS], &mut text);
     io::write_all(STDOUT_FILENO, b" READY");
     print_number(status_of(page));
     print_number(number_of(page));

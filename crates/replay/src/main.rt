@@ -3,6 +3,8 @@
 //
 // An entry is 60 octets: the second, four octets with the highest first, and the page. If the last entry is cut, what is there of its page is fed, which is
 // LENGTH. If even its second is cut, there is nothing to feed: the line has - in the place of the second, and says LENGTH too.
+#![tactic(auto)]
+
 ghost use Rattle.std.specs.Prelude.{◌≡◌, ◌≤◌, length};
 ghost use Rattle.collector.specs.Image.{Made};
 ghost use Rattle.replay.specs.Drive.{second_of};

@@ -1,4 +1,6 @@
 // Runs what the ICD prints: Table 41 as far as our copy has it, Table 42, and Annex D of source 000; and each refusal once.
+#![tactic(auto)]
+
 ghost use Rattle.std.specs.Prelude.{◌≡◌, ◌≤◌, ◌<◌};
 
 mod annex_d;

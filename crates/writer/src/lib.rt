@@ -1,4 +1,6 @@
 // The writer of message type 1 (document 01, Records): records to a message in the fewest pages.
+#![tactic(auto)]
+
 mod append;
 mod block;
 mod header;

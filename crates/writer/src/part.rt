@@ -8,7 +8,7 @@ use crate::append::{append, one_if, pair_at};
 use crate::row::append_row;
 
 // The parts of a message that the records of satellites and cells make.
-#[derive(Drop)]
+#[derive(Clone, Copy)]
 pub enum Part {
     Orbit,
     Clock,

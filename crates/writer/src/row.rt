@@ -5,7 +5,7 @@ ghost use Rattle.writer.specs.Rendering.{Appends, is_cell, row, signals_of};
 use crate::append::{append, one_if};
 
 // Where the next record begins, and how many bits have come.
-#[derive(Drop)]
+#[derive(Clone, Copy)]
 pub struct RowCursor {
     pub octet: usize,
     pub at: usize,

@@ -22,7 +22,7 @@ const PAGE_BITS: usize = 424;
 const MESSAGE_BITS: usize = 13568;
 
 // What `write` answers: how many pages it wrote, or the refusal.
-#[derive(Drop)]
+#[derive(Clone, Copy)]
 pub enum WriteAnswer {
     Size(u64),
     Refused(Refusal),

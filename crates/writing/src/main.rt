@@ -1,4 +1,6 @@
 // Reads records of 16 octets from standard input, and writes their message, with no mask lent, in capital hex, a page a line, or the refusal (document 01, Records).
+#![tactic(auto)]
+
 ghost use Rattle.std.specs.Prelude.{◌≡◌, length};
 ghost use Rattle.io.specs.Counts.{IsPrefixLen};
 
@@ -14,7 +16,7 @@ const PAGE_OCTETS: usize = 53;
 
 fn print_page(octets: &[u8]) {
     let mut text = [0u8; 106];
-    let n = hex::spell(octets, &mut text);
+    let n = hex_text::spell(octets, &mut text);
     io::write_all(STDOUT_FILENO, &text[..n]);
     io::write_all(STDOUT_FILENO, b"\n");
 }

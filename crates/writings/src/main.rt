@@ -4,6 +4,8 @@
 // The numbers of the script have two octets; a window is a place, counted from the first octet, and how many octets. First comes where the writings begin,
 // then the octets that the windows show. A writing has the window of its name, that of the lent mask, the Mask ID, how long the buffer is,
 // how many windows its records have, and these: the records are what they show, one behind the other.
+#![tactic(auto)]
+
 ghost use Rattle.std.specs.Prelude.{◌≤◌, ◌<◌, length};
 ghost use Rattle.io.specs.Counts.{IsPrefixLen};
 
