@@ -63,7 +63,7 @@ content-octets k m p o = listed-octets 53 (λ j. page_octet (column k j m) p) (�
 -- ---- "For k pages with different legal numbers, with any contents, there is exactly one message of k pages that has them"
 pub unique_solution : (numbers contents : List ℕ) → Octets contents → are_pages (length numbers) (length contents) ≡ true → all_legal (length numbers) numbers ≡ true → different numbers ≡ true
     → UniqueSolution numbers contents
-unique_solution = solution.unique-solution
+unique_solution = solution.unique_solution
 
 -- what must hold of numbers and contents: the tests of `solve`, the buffer aside
 pub record Solvable (numbers contents : List ℕ) : Type 0 where

@@ -1,0 +1,39 @@
+-- The run that is there is the number; a wider one, and one that is not all there, is none.
+use mathlib.Core.Path.{sym, ◌∙◌}
+use Prim.Native.Nat.{◌+◌, ◌≤◌}
+use native.Mathlib.Omega.{arith}
+use lib.ListN.{length}
+use borrow.Author.Rules.{rules}
+use borrow.Author.Tests.{leb-true}
+use Rattle.bits.specs.Bits.{bits_of}
+use Rattle.bits.proofs.Octets.{length-bits_of}
+use Rattle.bits.proofs.Runs.{not_there, too_wide, number_fits, number-none}
+use Rattle.bits.proofs.number_at.Goals as goal
+use Rattle.bits.proofs.number_at.Goals.{Then-fits}
+
+pub returns-then-n-gt64 : goal.returns-then-n-gt64
+returns-then-n-gt64 c =
+    let a = c.args in
+    let bs = bits_of a.octets.now in
+    sym (number-none bs a.at a.n (too_wide bs a.at a.n (search rules)))
+
+there : (c : Then-fits) → c.args.at + c.args.n ≤ length (bits_of c.args.octets.now)
+there c =
+    let a = c.args in
+    leb-true (a.at + a.n) (length (bits_of a.octets.now)) (sym c.fits.ensures ∙ c.if-fits.true)
+
+pub run_at-requires : goal.run_at-requires
+run_at-requires c =
+    let a = c.args in
+    (search rules, omega (arith, there (goal.at.run_at-requires c).Then-fits, length-bits_of a.octets.now))
+
+pub returns-then-fits : goal.returns-then-fits
+returns-then-fits c =
+    let a = c.args in
+    c.run_at.ensures ∙ sym (number_fits (bits_of a.octets.now) a.at a.n (there (goal.at.returns-then-fits c).Then-fits) (search rules))
+
+pub returns : goal.returns
+returns c =
+    let a = c.args in
+    let bs = bits_of a.octets.now in
+    sym (number-none bs a.at a.n (not_there bs a.at a.n (sym c.fits.ensures ∙ c.if-fits.false)))

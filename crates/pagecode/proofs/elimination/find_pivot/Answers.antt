@@ -1,0 +1,30 @@
+-- The first row with an entry is found: the rows that were passed have none, and a row from q on has one.
+use mathlib.Core.Path.{sym, ◌∙◌}
+use mathlib.Core.List.{[]}
+use Prim.Native.Nat.{◌-◌}
+use native.Mathlib.Omega.{arith}
+use borrow.Author.Rules.{rules}
+use Rattle.pagecode.specs.System.{cell}
+use Rattle.pagecode.proofs.Cells.{cell-low}
+use Rattle.pagecode.proofs.Steps.{Seeking, seek-start, seek-next, seek_found, seek-end}
+use Rattle.pagecode.proofs.elimination.find_pivot.Goals as goal
+
+pub loop-r-init : goal.loop-r-init
+loop-r-init c = seek-start c.args.k c.args.q (cell c.args.square []) (search rules)
+
+pub returns-then-square-r-ne0 : goal.returns-then-square-r-ne0
+returns-then-square-r-ne0 c =
+    let a = c.args in
+    let r = c.loop-r.r in
+    seek_found a.k a.q r (cell a.square []) (search rules) (λ z. c.if-square-r-ne0.true (sym (cell-low a.square [] r a.q (omega arith)) ∙ z)) c.loop-r.invariant
+
+pub loop-r-preserved : goal.loop-r-preserved
+loop-r-preserved c =
+    let a = c.args in
+    let r = c.loop-r.r in
+    seek-next a.k a.q r (cell a.square []) (search rules) (cell-low a.square [] r a.q (omega arith) ∙ c.if-square-r-ne0.false) c.loop-r.invariant
+
+pub returns : goal.returns
+returns c =
+    let a = c.args in
+    absurd (seek-end a.k a.q c.loop-r.r (cell a.square []) (search rules) c.loop-r.invariant c.requires.2)

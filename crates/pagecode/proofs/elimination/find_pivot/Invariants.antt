@@ -1,0 +1,16 @@
+-- The first row with an entry is found: the rows that were passed have none, and a row from q on has one.
+use mathlib.Core.Path.{sym, ◌∙◌}
+use mathlib.Core.List.{[]}
+use Prim.Native.Nat.{◌-◌}
+use native.Mathlib.Omega.{arith}
+use borrow.Author.Rules.{rules}
+use Rattle.pagecode.specs.System.{cell}
+use Rattle.pagecode.proofs.Cells.{cell-low}
+use Rattle.pagecode.proofs.Steps.{Seeking, seek-start, seek-next, seek_found, seek-end}
+use Rattle.pagecode.proofs.elimination.find_pivot.Given as goal
+
+abbrev pub invariant-loop-r : goal.invariant-loop-r
+invariant-loop-r l = Seeking l.k l.q l.r (cell l.square [])
+
+abbrev pub decreases-loop-r : goal.decreases-loop-r
+decreases-loop-r l = l.k - l.r

@@ -1,0 +1,15 @@
+-- The right sides become the solution: each turn clears one column more, and a regular square always has a row with an entry there.
+use mathlib.Core.Path.{◌≡◌, refl}
+use Prim.Native.Nat.{◌-◌}
+use lib.ListN.{length}
+use borrow.Author.Rules.{rules}
+use Rattle.pagecode.specs.System.{cell}
+use Rattle.pagecode.proofs.Cells.{rows-octets}
+use Rattle.pagecode.proofs.Reduced.{pivoted, SolveLoop, solve-start, solve-turn, solve-end}
+use Rattle.pagecode.proofs.elimination.solve_square.Given as goal
+
+abbrev pub invariant-loop-q : goal.invariant-loop-q
+invariant-loop-q l = SolveLoop l.k l.initial.n l.initial.sides l.n l.sides l.q × (length l.low ≡ 16) × (length l.high ≡ 16)
+
+abbrev pub decreases-loop-q : goal.decreases-loop-q
+decreases-loop-q l = l.k - l.q

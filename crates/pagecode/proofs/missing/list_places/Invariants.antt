@@ -1,0 +1,15 @@
+-- Each turn writes its place behind the noughts so far, and behind the others so far; it stays in the list that it belongs to.
+use mathlib.Core.Path.{◌≡◌, refl, sym, ◌∙◌, subst}
+use Prim.Native.Nat.{ℕ, ◌+◌, ◌-◌, ◌≤◌}
+use native.Mathlib.Omega.{arith}
+use lib.ListN.{length, get_or, set, length-set}
+use Rattle.pagecode.specs.Reduction.{AreNoughts, AreOthers}
+use Rattle.pagecode.proofs.Noughts.{nought-le, list-start, list_turn, others-turn}
+use borrow.Author.Rules.{rules}
+use Rattle.pagecode.proofs.missing.list_places.Given as goal
+
+abbrev pub invariant-loop-j : goal.invariant-loop-j
+invariant-loop-j l = (l.j ≤ l.n) × (length l.noughts ≡ 32) × (length l.others ≡ 32) × (l.count ≤ l.j) × AreNoughts l.row l.j l.noughts l.count × AreOthers l.row l.j l.others
+
+abbrev pub decreases-loop-j : goal.decreases-loop-j
+decreases-loop-j l = l.n - l.j

@@ -1,0 +1,18 @@
+-- After a turns the first a rows are those of the first a parity pages.
+-- A legal number is one of 1 to 255, which the row of a page asks for.
+use mathlib.Core.Path.{◌≡◌, refl, ap, ◌∙◌}
+use mathlib.Core.List.{List, []}
+use Prim.Native.Nat.{ℕ, ◌-◌, ◌≤◌}
+use native.Mathlib.Omega.{arith}
+use lib.ListN.{length, get_or}
+use Rattle.pagecode.specs.Matrix.{matrix_row}
+use Rattle.pagecode.proofs.Stored.{Stored, store-next}
+use Rattle.pagecode.proofs.Rows.{legal-range}
+use borrow.Author.Rules.{rules}
+use Rattle.pagecode.proofs.reduction.parity_rows.Given as goal
+
+abbrev pub invariant-loop-a : goal.invariant-loop-a
+invariant-loop-a l = (l.a ≤ l.r) × Stored [] (λ b. b) (λ b. matrix_row (get_or l.numbers (get_or l.parity b 0 - 1) 0)) 32 l.rows l.a
+
+abbrev pub decreases-loop-a : goal.decreases-loop-a
+decreases-loop-a l = l.r - l.a

@@ -1,0 +1,14 @@
+-- Each turn sets one entry.
+use mathlib.Core.Path.{◌≡◌, refl, ap, ◌∙◌}
+use Prim.Native.Nat.{ℕ, ◌-◌, ◌≤◌}
+use native.Mathlib.Omega.{arith}
+use lib.ListN.{get_or}
+use Rattle.pagecode.proofs.Stored.{Stored, store-next}
+use borrow.Author.Rules.{rules}
+use Rattle.pagecode.proofs.reduction.reduced_row.Given as goal
+
+abbrev pub invariant-loop-c : goal.invariant-loop-c
+invariant-loop-c l = (l.c ≤ l.r) × Stored 0 (λ b. b) (λ b. get_or l.row (get_or l.missing b 0 - 1) 0) 32 l.s l.c
+
+abbrev pub decreases-loop-c : goal.decreases-loop-c
+decreases-loop-c l = l.r - l.c

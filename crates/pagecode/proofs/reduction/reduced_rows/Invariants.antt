@@ -1,0 +1,16 @@
+-- Each turn makes one row.
+use mathlib.Core.Path.{◌≡◌, refl, ◌∙◌}
+use mathlib.Core.List.{[]}
+use Prim.Native.Nat.{ℕ, ◌-◌, ◌≤◌, ◌<◌}
+use native.Mathlib.Omega.{arith}
+use lib.ListN.{length, get_or, length-set}
+use Rattle.pagecode.specs.Reduction.{ReducedRow}
+use Rattle.pagecode.proofs.Reducing.{rows_turn}
+use borrow.Author.Rules.{rules}
+use Rattle.pagecode.proofs.reduction.reduced_rows.Given as goal
+
+abbrev pub invariant-loop-a : goal.invariant-loop-a
+invariant-loop-a l = (l.a ≤ l.r) × (length l.square ≡ 32) × ((b : ℕ) → b < l.a → ReducedRow l.r l.missing (get_or l.rows b []) (get_or l.square b []))
+
+abbrev pub decreases-loop-a : goal.decreases-loop-a
+decreases-loop-a l = l.r - l.a
