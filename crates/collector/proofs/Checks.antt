@@ -91,6 +91,7 @@ absent-new n [] a = refl
 absent-new n (x ∷ xs) a = on_bool (eqb n x) (λ q. absurd (a (Memᴰ.head (eqb-true n x q)))) (λ q. rw q (ap suc (absent-new n xs (λ m. a (Memᴰ.tail m)))))
 
 nodup-apart : (xs : List ℕ) (a : ℕ) (ys : List ℕ) → Nodup (xs ++ (a ∷ ys)) → Memᴰ a xs → ⊥
+nodup-apart [] a ys d x' = elim x' [ ]
 nodup-apart (x ∷ xs) a ys d (Memᴰ.head e) = d.0 (Memᴰ.append_right xs (Memᴰ.head (sym e)))
 nodup-apart (x ∷ xs) a ys d (Memᴰ.tail m) = nodup-apart xs a ys d.1 m
 

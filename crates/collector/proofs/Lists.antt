@@ -76,6 +76,7 @@ memb-true n [] e = clash e refl
 memb-true n (x ∷ xs) e = on_bool (eqb n x) (λ q. Memᴰ.head (eqb-true n x q)) (λ q. Memᴰ.tail (memb-true n xs (rw q at e)))
 
 pub mem-memb : (n : ℕ) (l : List ℕ) → Memᴰ n l → memb n l ≡ true
+mem-memb n [] x' = elim x' [ ]
 mem-memb n (x ∷ xs) (Memᴰ.head e) = rw (eq-eqb n x e)
 mem-memb n (x ∷ xs) (Memᴰ.tail m) = on_bool (eqb n x) (λ q. rw q) (λ q. rw q (mem-memb n xs m))
 
@@ -133,6 +134,7 @@ gather-old a s [] m = m
 gather-old a s (n ∷ ns) m = gather-old a (add n s) ns (add-old a n s m)
 
 gather-new : (a : ℕ) (s ns : List ℕ) → Memᴰ a ns → Memᴰ a (gather s ns)
+gather-new a s [] x' = elim x' [ ]
 gather-new a s (n ∷ ns) (Memᴰ.head e) = Memᴰ.cast e (gather-old n (add n s) ns (add-new n s))
 gather-new a s (n ∷ ns) (Memᴰ.tail m) = gather-new a (add n s) ns m
 
@@ -172,6 +174,7 @@ every_back P [] post h = h
 every_back P (x ∷ xs) post h = every_back P xs post h.1
 
 pub every_mem : {A : Type 0} (P : A → Type 0) (l : List A) → Every P l → (a : A) → Memᴰ a l → P a
+every_mem P [] ev a x' = elim x' [ ]
 every_mem P (x ∷ xs) ev a (Memᴰ.head e) = subst P (sym e) ev.0
 every_mem P (x ∷ xs) ev a (Memᴰ.tail i) = every_mem P xs ev.1 a i
 

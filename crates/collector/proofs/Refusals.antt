@@ -53,7 +53,10 @@ unwritten r buffer = refl
 -- ---- the place of a key, put back
 replace-found : (k : Key) (ps : List Place) → replace (has_key k) (find k ps) ps ≡ ps
 replace-found k [] = refl
-replace-found k (p ∷ ps) = on_bool (has_key k p) (λ e. rw e) (λ e. rw e (ap (λ (r : List Place). p ∷ r) (replace-found k ps)))
+replace-found k (p ∷ ps) = on_bool (has_key k p) (λ e. rw e) (λ e.
+    let f : find k (p ∷ ps) ≡ find k ps = rw e refl in
+    let g : p ∷ replace (has_key k) (find k (p ∷ ps)) ps ≡ p ∷ ps = ap (λ (q : Place). p ∷ replace (has_key k) q ps) f ∙ ap (λ (r : List Place). p ∷ r) (replace-found k ps) in
+    rw e g)
 
 -- ---- the checks
 is_refusal : Answer → Bool

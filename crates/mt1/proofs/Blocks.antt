@@ -80,7 +80,7 @@ subset-reads ss k = reads_ok
     (λ l o. record { some = o.0.0; few = o.0.1; chosen_ids = o.1.1; each = o.1.2 })
     (λ l o. ((o.some, o.few), (refl, o.chosen_ids, o.each)))
     (then length (λ n l o. o.0) (counted-reads (length ss) (omega (arith, k.few))) λ n _.
-    systems-reads (λ s. s.id) [] n (ids-small [] (ids ss) k.ids) (subset-system-reads ss))
+    systems-reads _ (λ s. s.id) [] n (ids-small [] (ids ss) k.ids) (subset-system-reads ss))
 
 -- ---- codes and phases
 pub codes-reads : (ss : List System) → Reads (codes ss) (CodesOk ss) codes_bits

@@ -4,7 +4,7 @@ use Prim.Native.Nat.{ℕ, ◌<◌, ◌≤◌, ◌^◌}
 use native.Mathlib.Omega.{arith}
 use mathlib.Core.Bool.{◌&&◌}
 use mathlib.Core.List.{[], ◌++◌}
-use mathlib.Core.Path.{◌≡◌, refl, ap₂}
+use mathlib.Core.Path.{◌≡◌, refl, ap, ap₂}
 use lib.Dec.{eqb, leb, ltb}
 use lib.ListN.{length}
 use borrow.Author.Tests.{ltb-true, lt-ltb, leb-true, le-leb, eqb-true, eq-eqb}
@@ -57,5 +57,5 @@ mask-reads = reads_ok
     (λ m o. record { some = o.0.0; few = o.0.1; ids = o.1.0.1; systems = o.1.0.2; reserved = o.1.1.0 })
     (λ m o. ((o.some, o.few), ((refl, o.ids, o.systems), (o.reserved, refl))))
     (then (λ m. length m.systems) (λ n m o. o.0.0) (counted-reads 2 (omega arith)) λ n _.
-    then (λ m. m.systems) (λ a m o. cc) (systems-reads (λ s. s.id) [] n known_small system-reads) λ ss _.
+    then (λ m. m.systems) (λ a m o. cc) (systems-reads known (λ s. s.id) [] n known_small system-reads) λ ss _.
     last (λ m. m.reserved) (λ a. refl) (field-reads 6))

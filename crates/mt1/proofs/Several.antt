@@ -132,12 +132,12 @@ memb-every P (x ∷ l) id o = on_bool (eqb id x) (λ t. rw t λ e. rw (eqb-true 
 abbrev pub SystemsOk : {A : Type 0} → List ℕ → (A → ℕ) → (A → Type 0) → List ℕ → ℕ → List A → Type 0
 SystemsOk may id_of Ok came n xs = (length xs ≡ n) × IdsOk may came (map id_of xs) × Every Ok xs
 
-pub systems-reads : {A : Type 0} {may : List ℕ} {p : ℕ → Parser A} {Ok : A → Type 0} {g : A → List Bool} (id_of : A → ℕ) (came : List ℕ) (n : ℕ)
+pub systems-reads : {A : Type 0} (may : List ℕ) {p : ℕ → Parser A} {Ok : A → Type 0} {g : A → List Bool} (id_of : A → ℕ) (came : List ℕ) (n : ℕ)
     → Every (λ i. i < 2 ^ 4) may → ((id : ℕ) → Reads (p id) (λ x. (id_of x ≡ id) × Ok x) g)
     → Reads (systems may p came n) (SystemsOk may id_of Ok came n) (each (λ x. bits 4 (id_of x) ++ g x))
 unfolding systems each
-systems-reads id_of came zero small P = nil-reads (refl, tt, tt) refl (λ x xs o. omega (arith, o.0))
-systems-reads {A} {may} {Ok = Ok} {g} id_of came (suc n) small P = bind to from (judged-reads 4 (wrong_id may came)) (λ id o. cons-reads (P id) (λ x h. systems-reads id_of (id ∷ came) n small P))
+systems-reads may id_of came zero small P = nil-reads (refl, tt, tt) refl (λ x xs o. omega (arith, o.0))
+systems-reads {A} may {Ok = Ok} {g} id_of came (suc n) small P = bind to from (judged-reads 4 (wrong_id may came)) (λ id o. cons-reads (P id) (λ x h. systems-reads may id_of (id ∷ came) n small P))
   where
     f : A → List Bool
     f x = bits 4 (id_of x) ++ g x

@@ -1,0 +1,31 @@
+-- Each arm answers for its case; an array of 32 numbers has 32.
+use mathlib.Core.Bool.{Bool}
+use mathlib.Core.List.{List}
+use mathlib.Core.Path.{◌≡◌, sym, ap, ◌∙◌}
+use Prim.Native.Nat.{ℕ}
+use lib.ListN.{length}
+use borrow.Author.Rules.{rules}
+use borrow.Author.Tests.{eq-eqb}
+use Rattle.collector.specs.declared.state.Place.{Place}
+use Rattle.collector.specs.declared.state.PlaceState.{PlaceState}
+use Rattle.collector.specs.Checks.{is_state, is_place}
+use Rattle.collector.proofs.checking.is_place.Goals as goal
+
+tested : (last : ℕ) (p : Place) (octets : List ℕ) (s : PlaceState) (b : Bool) → length p.numbers ≡ 32 → p.state ≡ s → b ≡ is_state last s p.numbers octets → b ≡ is_place last p octets
+unfolding is_place
+tested last p octets s b long e t = rw (eq-eqb (length p.numbers) 32 long) (t ∙ ap (λ (x : PlaceState). is_state last x p.numbers octets) (sym e))
+
+pub returns-in-Free : goal.returns-in-Free
+returns-in-Free c =
+    let a = c.args in
+    tested a.last a.place a.octets.now _ c.is_rest.result (search rules) c.in-Free.is c.is_rest.ensures
+
+pub returns-in-Open : goal.returns-in-Open
+returns-in-Open c =
+    let a = c.args in
+    tested a.last a.place a.octets.now _ c.is_open.result (search rules) c.in-Open.is c.is_open.ensures
+
+pub returns-in-Done : goal.returns-in-Done
+returns-in-Done c =
+    let a = c.args in
+    tested a.last a.place a.octets.now _ c.is_done.result (search rules) c.in-Done.is c.is_done.ensures

@@ -1,0 +1,25 @@
+-- The page's content is laid behind the contents of its place, and its number behind their numbers: KEPT, or it is the last one and the place is finished.
+use mathlib.Core.List.{[], ◌∷◌, ◌++◌}
+use borrow.Author.Rules.{rules}
+use Rattle.collector.specs.Feed.{held_of}
+use Rattle.collector.proofs.Pages.{keeping-length, keeping-last, kept-page, ready-page}
+use Rattle.collector.proofs.keeping.keep_page.Goals as goal
+
+pub put_content-requires : goal.put_content-requires
+put_content-requires c = let t = c.requires.3 in (keeping-length t, search rules, t.long)
+
+pub finish_place-requires : goal.finish_place-requires
+finish_place-requires c =
+    let p = c.requires in
+    (p.0, p.1, p.2 ++ (held_of c.args.page.now ∷ []), keeping-last p.3 (λ i. (c.type_inv.page i).fits) c.put_content.ensures c.if-more-key.true)
+
+pub returns-then-more-key : goal.returns-then-more-key
+returns-then-more-key c =
+    let a = c.args in
+    λ m k pages t.
+    ready-page t a.first c.if-more-key.true
+    (c.finish_place.ensures m k (pages ++ (held_of a.page.now ∷ [])) (keeping-last t (λ i. (c.type_inv.page i).fits) c.put_content.ensures c.if-more-key.true))
+
+pub returns : goal.returns
+returns c =
+    λ m k pages t. kept-page t (λ i. (c.type_inv.page i).fits) c.put_content.ensures c.args.first c.if-more-key.false

@@ -1,0 +1,16 @@
+-- After i turns the digits of the first i octets stand at the start of the text. The measure is how many octets are left.
+use Prim.Native.Nat.{◌-◌, ◌*◌, ◌≤◌}
+use mathlib.Core.Path.{◌≡◌, refl}
+use native.Mathlib.Omega.{arith}
+use lib.ListN.{length, take, length-set}
+use borrow.Author.Rules.{rules}
+use Rattle.lists.specs.Lists.{laid}
+use Rattle.hex_text.specs.Hex.{hex_of}
+use Rattle.hex_text.proofs.Spelling.{start, turn, full, all}
+use Rattle.hex_text.proofs.spell.Given as goal
+
+abbrev pub invariant-loop-i : goal.invariant-loop-i
+invariant-loop-i l = (l.i ≤ length l.octets) × (2 * l.i ≤ length l.initial.text) × (length l.text ≡ length l.initial.text) × (l.text ≡ laid l.initial.text 0 (hex_of (take l.i l.octets)))
+
+abbrev pub decreases-loop-i : goal.decreases-loop-i
+decreases-loop-i l = length l.octets - l.i
