@@ -1,0 +1,36 @@
+-- The checks are those of the answer, in their order; a start that is good leaves a fresh collector, whose log the entries make.
+use borrow.Author.Tests.{not-true, not-false}
+use mathlib.Core.Path.{sym, ◌∙◌}
+use borrow.Author.Rules.{rules}
+use Rattle.drive.proofs.Checks.{started, not-started, held-timeout, held-fresh, no-entries, no_room, no_start, goes}
+use Rattle.drive.proofs.replaying.replay.Goals as goal
+
+pub returns-then-not-is_whole : goal.returns-then-not-is_whole
+returns-then-not-is_whole c =
+    let a = c.args in
+    no-entries a.timeout a.entries.now a.log.now (sym c.is_whole.ensures ∙ c.if-not-is_whole.true)
+
+pub returns-then-log-entries : goal.returns-then-log-entries
+returns-then-log-entries c =
+    let a = c.args in
+    no_room a.timeout a.entries.now a.log.now (sym c.is_whole.ensures ∙ c.if-not-is_whole.false) c.if-log-entries.true
+
+pub returns-in_default : goal.returns-in_default
+returns-in_default c =
+    let a = c.args in
+    no_start a.timeout a.entries.now a.log.now (sym c.is_whole.ensures ∙ c.if-not-is_whole.false) c.if-log-entries.false
+    (not-started a.timeout c.start-started.ensures.0 c.in_default.is)
+
+pub log_entries-requires : goal.log_entries-requires
+log_entries-requires c =
+    let a = c.args in (
+      held-fresh a.timeout (started a.timeout c.start-started.ensures.0 c.in-Good.is) c.start-started.ensures.1,
+      c.if-log-entries.false,
+    )
+
+pub returns : goal.returns
+returns c =
+    let a = c.args in
+    let s = started a.timeout c.start-started.ensures.0 c.in-Good.is in
+    goes a.timeout a.entries.now a.log.now (sym c.is_whole.ensures ∙ c.if-not-is_whole.false) c.if-log-entries.false s
+    (held-timeout a.timeout s c.start-started.ensures.1) c.log_entries.ensures

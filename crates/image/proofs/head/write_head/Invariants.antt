@@ -1,0 +1,16 @@
+-- After i turns the first i places are laid behind the time-out and the last second.
+use mathlib.Core.List.{[]}
+use mathlib.Core.Path.{◌≡◌}
+use Prim.Native.Nat.{◌-◌, ◌≤◌}
+use native.Mathlib.Omega.{arith}
+use lib.ListN.{length, length-map}
+use borrow.Author.Rules.{rules}
+use Rattle.collector.specs.declared.state.PlaceState.TheVariants.{Free}
+use Rattle.image.proofs.Parts.{Put, put-none, put-more, head-laid}
+use Rattle.image.proofs.head.write_head.Given as goal
+
+abbrev pub invariant-loop-i : goal.invariant-loop-i
+invariant-loop-i l = (l.i ≤ 8) × (length l.out ≡ 336) × (length l.initial.out ≡ 336) × Put l.initial.out l.head.places l.i l.out
+
+abbrev pub decreases-loop-i : goal.decreases-loop-i
+decreases-loop-i l = 8 - l.i

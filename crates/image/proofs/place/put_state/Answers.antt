@@ -1,0 +1,15 @@
+-- The number is laid behind the first four octets, and the count behind it.
+use mathlib.Core.Path.{ap, ◌∙◌}
+use native.Mathlib.Omega.{arith}
+use lib.ListN.{length}
+use borrow.Author.Rules.{rules}
+use Rattle.lists.proofs.Laid.{laid-length}
+use Rattle.image.proofs.Parts.{state-laid}
+use Rattle.image.proofs.place.put_state.Goals as goal
+
+pub returns : goal.returns
+returns c =
+    let a = c.args in
+    state-laid a.out.now a.at a.kind a.key.status a.key.number a.key.size a.first a.count _ _ (omega arith)
+    c.put_four.ensures
+    c.put_word.ensures

@@ -1,0 +1,81 @@
+-- The time of hour is judged first; then the mask flag tells whose mask is used, and the blocks behind it are planned by that mask.
+use Prim.Native.Nat.{◌≤◌}
+use native.Mathlib.Omega.{arith}
+use mathlib.Core.List.{List, []}
+use mathlib.Core.Bool.{Bool}
+use mathlib.Core.Option.{none, some}
+use mathlib.Core.Path.{◌≡◌, sym, ap, ◌∙◌}
+use lib.ListN.{length}
+use borrow.Author.Rules.{rules}
+use Rattle.bits.specs.Bits.{bits_of}
+use Rattle.bits.proofs.Octets.{length-bits_of}
+use Rattle.mt1.specs.Parse.{got, bad}
+use Rattle.mt1.specs.Message.{Header, Mask}
+use Rattle.mt1.specs.Mt1.{header, mask, Lent}
+use Rattle.reader.proofs.Headers.{header-bad, header-got, header_at, Found, found, mask-refused}
+use Rattle.reader.proofs.Messages.{message-bad, own-bad, own_read, none_made, none_read, lent-message}
+use Rattle.reader.proofs.plan.plan_message.Goals as goal
+use Rattle.reader.proofs.plan.plan_message.Goals.{Else-number_at-gt3599, In-Got, Start}
+
+lent : (c : Start) → Lent
+lent s =
+    record { id = s.args.mask-id; octets = s.args.mask.now }
+
+bits : (c : Start) → List Bool
+bits s =
+    bits_of s.args.octets.now
+
+long : (s : Start) → 32 ≤ length (bits s)
+long s =
+    omega (arith, s.requires.1, length-bits_of s.args.octets.now)
+
+header_read : (c : Else-number_at-gt3599) → (h : Header) × (header (bits c.before.before.before.before) 0 ≡ got h 32)
+header_read c =
+    header-got (bits c.before.before.before.before) (long c.before.before.before.before) (omega (arith, c.if-number_at-gt3599.false, c.number_at.ensures))
+
+own-mask : (c : In-Got) → (m : Mask) × Found (bits c.before.before.before.before.before.before.before.before.before.before) 32 m c.in-Got.plan c.in-Got.at
+own-mask c =
+    found (bits c.before.before.before.before.before.before.before.before.before.before) 32 (omega arith) (long c.before.before.before.before.before.before.before.before.before.before) c.read_mask-m.ensures c.in-Got.is
+
+pub returns-then-number_at-gt3599 : goal.returns-then-number_at-gt3599
+returns-then-number_at-gt3599 c =
+    message-bad (lent c.before.before.before.before.before) c.args.octets.now
+    (header-bad (bits c.before.before.before.before.before) (long c.before.before.before.before.before) (omega (arith, c.if-number_at-gt3599.true, c.number_at.ensures)) ∙ ap bad (sym c.refuse.ensures))
+
+pub returns-in_default : goal.returns-in_default
+returns-in_default c =
+    let (h, e) = header_read c.before.before.before.before.before.before in
+    own-bad (lent c.before.before.before.before.before.before.before.before.before.before) c.args.octets.now h e c.requires.0 (sym c.bit_at.ensures ∙ c.if-bit_at.true)
+    (mask-refused (mask (bits c.before.before.before.before.before.before.before.before.before.before) 32) 32 c.read_mask-m.ensures c.in_default.is c.mask_refusal.ensures)
+
+pub plan_blocks-requires : goal.plan_blocks-requires
+plan_blocks-requires c =
+    let (m, w) = own-mask c in
+    (w.ahead, omega (arith, w.fits, length-bits_of c.args.octets.now), c.requires.0, (m.systems, w.stands.made.0, w.stands.made.1))
+
+pub returns-then-bit_at : goal.returns-then-bit_at
+returns-then-bit_at c =
+    let (h, e) = header_read c.before.before.before.before.before.before.before in
+    let (m, w) = own-mask c.before in
+    own_read (lent c.before.before.before.before.before.before.before.before.before.before.before) c.args.octets.now h e c.requires.0 m c.plan_blocks.result (sym c.bit_at.ensures ∙ c.if-bit_at.true) w
+    (c.plan_blocks.ensures h (some m) m.systems w.stands.made.0 (header_at (bits c.before.before.before.before.before.before.before.before.before.before.before) h e).flags w.stands.made.1)
+
+pub returns-then-needs_mask : goal.returns-then-needs_mask
+returns-then-needs_mask c =
+    let (h, e) = header_read c.before.before.before.before.before in
+    let n = sym (c.needs_mask.ensures h (header_at (bits c.before.before.before.before.before.before.before.before.before) h e).flags) ∙ c.if-needs_mask.true in
+    lent-message (lent c.before.before.before.before.before.before.before.before.before) c.args.octets.now h e c.requires.0 (sym c.bit_at.ensures ∙ c.if-bit_at.false) c.plan_lent.result n (c.plan_lent.ensures h e n)
+
+pub plan_blocks-requires-2 : goal.plan_blocks-requires-2
+plan_blocks-requires-2 c =
+    let q = c.requires in
+    (omega arith, omega (arith, q.1), q.0, ([], 0, none_made (c.no_mask.ensures 0)))
+
+pub returns : goal.returns
+returns c =
+    let (h, e) = header_read c.before.before.before.before.before.before in
+    let x = (header_at (bits c.before.before.before.before.before.before.before.before.before.before) h e).flags in
+    let n = sym (c.needs_mask.ensures h x) ∙ c.if-needs_mask.false in
+    let k = c.no_mask.ensures 0 in
+    none_read (lent c.before.before.before.before.before.before.before.before.before.before) c.args.octets.now h e c.requires.0 (sym c.bit_at.ensures ∙ c.if-bit_at.false) c.plan_blocks-2.result n k
+    (c.plan_blocks-2.ensures h none [] 0 x (none_made k))

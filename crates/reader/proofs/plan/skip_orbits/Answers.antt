@@ -1,0 +1,28 @@
+-- Where its flag is 0 nothing is read; else the block is passed over by the plan's numbers.
+use native.Mathlib.Omega.{arith}
+use mathlib.Core.Path.{sym, ◌∙◌}
+use borrow.Author.Rules.{rules}
+use borrow.Author.Tests.{not-true, not-false}
+use Rattle.bits.specs.Bits.{bits_of}
+use Rattle.mt1.specs.Mt1.{block, orbits}
+use Rattle.reader.proofs.BlockRows.{orbits-rows}
+use Rattle.reader.proofs.Planning.{step-absent, step-there, small-orbit}
+use Rattle.reader.proofs.plan.skip_orbits.Goals as goal
+
+pub returns-then-not-bit_at : goal.returns-then-not-bit_at
+returns-then-not-bit_at c =
+    λ ss place k.
+    let a = c.args in
+    step-absent (block (orbits ss)) (bits_of a.octets.now) a.at (sym c.bit_at.ensures ∙ c.if-not-bit_at.true)
+
+pub skip_block-requires : goal.skip_block-requires
+skip_block-requires c =
+    let q = c.requires in
+    let mask = c.args.mask in
+    (omega (arith, q.0, q.1), q.1, small-orbit mask.first.id c.iod_bits.ensures, small-orbit mask.second.id c.iod_bits-2.ensures)
+
+pub returns : goal.returns
+returns c =
+    λ ss place k.
+    let a = c.args in
+    step-there (block (orbits ss)) (bits_of a.octets.now) a.at (sym c.bit_at.ensures ∙ c.if-not-bit_at.false) (c.skip_block.ensures ∙ orbits-rows (bits_of a.octets.now) k a.at c.iod_bits.ensures c.iod_bits-2.ensures)

@@ -1,0 +1,76 @@
+-- The ID is one of the mask's systems and tells how many satellites its part has; what is passed over behind it is that part.
+-- the ID that is there
+use Prim.Native.Nat.{ℕ, ◌+◌, ◌≤◌}
+use native.Mathlib.Omega.{arith}
+use mathlib.Core.List.{List, [], ◌∷◌}
+use mathlib.Core.Option.{Option}
+use mathlib.Core.Path.{◌≡◌, sym, ◌∙◌}
+use lib.Dec.{eqb}
+use lib.ListN.{length}
+use borrow.Author.Rules.{rules}
+use Rattle.bits.specs.Bits.{bits_of}
+use Rattle.bits.proofs.Octets.{length-bits_of}
+use Rattle.refusal.specs.declared.Refusal.{Refusal}
+use Rattle.mt1.specs.Parse.{got, judged, wrong_id}
+use Rattle.mt1.specs.Message.{System, count}
+use Rattle.mt1.specs.Mt1.{satellites_of, subset_system}
+use Rattle.reader.specs.Steps.{MaskOf}
+use Rattle.reader.proofs.Fields.{judged-ends, field-got, field-bad, step-bad}
+use Rattle.reader.proofs.SubsetSteps.{either-few, id-bad, id-end, satellites-there, part-bad, part-got}
+use Rattle.reader.proofs.subset.read_part.Goals as goal
+use Rattle.reader.proofs.subset.read_part.Goals.{After-last_id, After-satellites_of, In-Got-2, Start}
+
+wrong : (c : After-last_id) → ℕ → Option Refusal
+wrong l =
+    let a = l.args in wrong_id (a.mask.first.id ∷ l.last_id.result ∷ []) (a.came ∷ [])
+
+within : (i : Start) → i.args.at ≤ length (bits_of i.args.octets.now)
+within i =
+    omega (arith, length-bits_of i.args.octets.now, i.requires.0)
+
+id-there : (f : In-Got-2) → let a = f.args in judged 4 (wrong f.before.before.before) (bits_of a.octets.now) a.at ≡ got f.in-Got.id (a.at + 4)
+id-there f =
+    let a = f.args in
+    let bs = bits_of a.octets.now in
+    field-got (judged 4 (wrong f.before.before.before) bs a.at) (judged-ends 4 (wrong f.before.before.before) bs a.at) f.read_id-f.ensures f.in-Got.is
+
+-- its satellites
+satellites-are : (d : After-satellites_of) {ss : List System} {place : ℕ} → MaskOf ss place d.args.mask → d.satellites_of.result ≡ count (satellites_of ss d.in-Got.id)
+satellites-are d o =
+    let i = start d.before.before.before.before.before in
+    satellites-there (bits_of i.args.octets.now) o i.pre.2 d.last_id.ensures i.args.came i.args.at (id-there d.before.before) (within i) d.satellites_of.ensures
+
+pub returns-in_default : goal.returns-in_default
+returns-in_default c ss place o =
+    let a = c.args in
+    let bs = bits_of a.octets.now in
+    id-bad bs o c.requires.2 c.last_id.ensures a.came a.at
+    (field-bad (judged 4 (wrong c.before.before.before.before) bs a.at) c.read_id-f.ensures c.in_default.is c.field_refusal.ensures)
+
+pub skip_part-s-requires : goal.skip_part-s-requires
+skip_part-s-requires c =
+    let i = start c.before.before.before.before.before in
+    let a = i.args in
+    let (ss, place, o) = i.pre.3 in
+    let m = id-end (bits_of a.octets.now) o i.pre.2 c.last_id.ensures a.came a.at (id-there c.before.before) (within i) in (
+      omega (arith, m, length-bits_of a.octets.now, i.pre.1),
+      omega (arith, c.satellites_of.ensures, either-few o (eqb c.in-Got.id a.mask.first.id)),
+      i.pre.1,
+    )
+
+pub returns-in_default-s : goal.returns-in_default-s
+returns-in_default-s c ss place o =
+    let i = start c.before.before.before.before.before.before.before.before.before in
+    let a = i.args in
+    let bs = bits_of a.octets.now in
+    let id = c.in-Got.id in
+    part-bad bs o i.pre.2 c.last_id.ensures a.came a.at (id-there c.before.before.before.before.before.before)
+    (step-bad (subset_system ss id bs (a.at + 4)) (c.skip_part-s.ensures ss id (satellites-are c.before.before.before.before o)) c.in_default-s.is c.step_refusal.ensures)
+
+pub returns : goal.returns
+returns c ss place o =
+    let i = start c.before.before.before.before.before.before.before.before.before.before in
+    let a = i.args in
+    let (x, e, same, span) = part-got (bits_of a.octets.now) o i.pre.2 c.last_id.ensures a.came a.at (id-there c.before.before.before.before.before.before.before) (within i)
+    (sym (c.skip_part-s.ensures ss c.in-Got.id (satellites-are c.before.before.before.before.before o)) ∙ c.in-At.is) in
+    (x, e, same, c.with_part.ensures, span)
