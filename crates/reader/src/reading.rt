@@ -32,7 +32,7 @@ fn plan_refusal(p: PlanRead) -> RefusalAt
 
 // Reads octets that need not be pages, 4 to 20,480 of them, with a lent mask, into records of 16 octets.
 pub fn read_octets(octets: &[u8], mask_id: u64, mask: &[u8], records: &mut [u8]) -> ReadAnswer
-    ensures { Reads reading_octets (record { octets = octets.entry.now; lent = record { id = mask_id; octets = mask.now }; room = length records.old }) records.old result records.new }
+    ensures { Reads reading_octets (record { octets = octets.now; lent = record { id = mask_id; octets = mask.now }; room = length records.old }) records.old result records.new }
 {
     let n = octets.len();
     if n < 4 || n > MOST_OCTETS {

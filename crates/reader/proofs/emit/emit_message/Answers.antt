@@ -4,6 +4,7 @@ use borrow.Author.Rules.{rules}
 use Rattle.reader.proofs.Systems.{close}
 use Rattle.reader.proofs.Emitted.{wrote-header, emitted-none, first-near, first-there, first-room, emitted-one, second-near, second-there, emitted-two}
 use Rattle.reader.proofs.emit.emit_message.Goals as goal
+use Rattle.reader.proofs.emit.emit_message.Goals.{After-store}
 
 pub returns-then-mask-eq0 : goal.returns-then-mask-eq0
 returns-then-mask-eq0 c =
@@ -32,13 +33,13 @@ pub emit_system-requires : goal.emit_system-requires
 emit_system-requires c =
     let (lent, m, ss, x) = c.requires.1 in
     let room =
-    first-room x c.if-mask-eq0.left c.first_rows-one.ensures c.requires.0
+    first-room x c.if-mask-eq0.false c.first_rows-one.ensures c.requires.0
     (wrote-header x (c.header_record-header.ensures lent c.args.source.now m ss x) c.store.ensures) c.emit_system-octet.ensures in
     let rows = c.second_rows-two.ensures in
-    (room.0, room.1, second-near x c.if-mask-eq0.left c.if-mask-eq1.false rows, second-there x c.if-mask-eq0.left c.if-mask-eq1.false rows)
+    (room.0, room.1, second-near x c.if-mask-eq0.false c.if-mask-eq1.false rows, second-there x c.if-mask-eq0.false c.if-mask-eq1.false rows)
 
 pub returns : goal.returns
 returns c =
     λ lent m ss x.
-    emitted-two x c.if-mask-eq0.left c.if-mask-eq1.false c.second_rows-two.ensures c.first_rows-one.ensures c.requires.0
+    emitted-two x c.if-mask-eq0.false c.if-mask-eq1.false c.second_rows-two.ensures c.first_rows-one.ensures c.requires.0
     (wrote-header x (c.header_record-header.ensures lent c.args.source.now m ss x) c.store.ensures) c.emit_system-octet.ensures c.emit_system.ensures

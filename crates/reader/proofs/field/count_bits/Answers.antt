@@ -11,6 +11,7 @@ use Rattle.bits.specs.Bits.{bits_of}
 use Rattle.mt1.specs.Message.{count}
 use Rattle.reader.proofs.Fields.{count-more, count-few}
 use Rattle.reader.proofs.field.count_bits.Goals as goal
+use Rattle.reader.proofs.field.count_bits.Goals.{then-bit_at, else-bit_at}
 
 pub loop-k-init : goal.loop-k-init
 unfolding count
@@ -27,10 +28,10 @@ loop-k-preserved c =
     let few : c.loop-k.k + 1 ≤ a.n = search rules in
     let more = count-more c.loop-k.k a.at (bits_of a.octets.now) c.loop-k.invariant.1 in (
       few,
-      ⊎_elim
-          (λ w. more true (sym w.0.taken ∙ c.bit_at.ensures) w.1)
-          (λ w. more false (sym w.0.left ∙ c.bit_at.ensures) (w.1 ∙ sym (add-zero c.loop-k.c)))
-          c.if-bit_at.branch,
+      elim c.if-bit_at.branch [
+        then-bit_at w ↦ more true (sym w.if-bit_at.true ∙ c.bit_at.ensures) w.c-is
+        | else-bit_at w ↦ more false (sym w.if-bit_at.false ∙ c.bit_at.ensures) (w.c-is ∙ sym (add-zero c.loop-k.c))
+      ],
     )
 
 pub returns : goal.returns

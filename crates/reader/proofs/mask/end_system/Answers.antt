@@ -16,9 +16,10 @@ use Rattle.reader.specs.declared.mask.SystemRead.TheVariants.{Refused}
 use Rattle.reader.proofs.Fields.{field-ends, field-got, field-bad, step-bad, skipped}
 use Rattle.reader.proofs.SystemSteps.{cells-few, cells-bad, navigation-bad, navigation-wrong, system-made}
 use Rattle.reader.proofs.mask.end_system.Goals as goal
-use Rattle.reader.proofs.mask.end_system.Goals.{After-cell_bits-n, In-At-2}
+use Rattle.reader.proofs.mask.end_system.Goals.{then-flag-eq1, else-flag-eq1}
+use Rattle.reader.proofs.mask.end_system.Goals.{After-cell_bits-n, In-At}
 
-there : (k : In-At-2) → let a = k.args in let n = k.cell_bits-n.result in
+there : (k : In-At) → let a = k.args in let n = k.cell_bits-n.result in
     (k.in-At.at ≡ a.place + 57 + n) × (fits_in (bits_of a.octets.now) (a.place + 57) n ≡ true)
 there k =
     let a = k.args in
@@ -49,7 +50,7 @@ returns-in_default-f c =
     λ x y s g.
     let a = c.args in
     let bs = bits_of a.octets.now in
-    navigation-bad a.id a.flag a.place bs x y s g c.cell_bits-n.ensures (there c.before.before.before.before.before)
+    navigation-bad a.id a.flag a.place bs x y s g c.cell_bits-n.ensures (there (goal.at.returns-in_default-f c).In-At)
     (field-bad (field 3 bs c.in-At.at) c.read_field-f.ensures c.in_default-f.is c.field_refusal.ensures)
 
 pub returns-then-navigation-ne0 : goal.returns-then-navigation-ne0
@@ -59,16 +60,16 @@ returns-then-navigation-ne0 c =
     let bs = bits_of a.octets.now in
     let m = c.in-At.at in
     ap Refused c.refuse.ensures
-    ∙ navigation-wrong a.id a.flag a.place bs x y s g c.cell_bits-n.ensures (there c.before.before.before.before.before.before.before)
+    ∙ navigation-wrong a.id a.flag a.place bs x y s g c.cell_bits-n.ensures (there (goal.at.returns-then-navigation-ne0 c).In-At)
     (field-got (field 3 bs m) (field-ends 3 bs m) c.read_field-f.ensures c.in-Got.is) (ne_eqb _ 0 c.if-navigation-ne0.true)
 
 pub count_bits-cells-requires : goal.count_bits-cells-requires
 count_bits-cells-requires c =
-    (search rules, omega (arith, few c.before.before.before.before.before.before.before.before.before.before))
+    (search rules, omega (arith, few (goal.at.count_bits-cells-requires c).After-cell_bits-n))
 
 pub overflow_add-result : goal.overflow_add-result
 overflow_add-result c =
-    omega (arith, (there c.before.before.before.before.before.before.before).0, few c.before.before.before.before.before.before.before.before.before.before, c.requires.0)
+    omega (arith, (there (goal.at.overflow_add-result c).In-At).0, few (goal.at.overflow_add-result c).After-cell_bits-n, c.requires.0)
 
 pub returns : goal.returns
 returns c =
@@ -77,9 +78,9 @@ returns c =
     let bs = bits_of a.octets.now in
     let m = c.in-At.at in
     let chosen : Bool → ℕ = λ t. cond t (count (take c.cell_bits-n.result (drop (a.place + 57) bs))) (a.satellites * a.signals) in
-    let cells : c.if-flag-eq1.cells ≡ chosen (eqb a.flag 1) = ⊎_elim
-    (λ w. w.2 ∙ w.1.ensures ∙ sym (ap chosen (eq-eqb a.flag 1 w.0.taken)))
-    (λ w. w.1 ∙ sym (ap chosen (ne_eqb a.flag 1 w.0.left)))
-    c.if-flag-eq1.branch in
-    system-made a.id a.flag a.place bs x y s g c.cell_bits-n.ensures (there c.before.before.before.before.before.before.before)
+    let cells : c.if-flag-eq1.cells ≡ chosen (eqb a.flag 1) = elim c.if-flag-eq1.branch [
+      then-flag-eq1 w ↦ w.cells-is ∙ w.count_bits-cells.ensures ∙ sym (ap chosen (eq-eqb a.flag 1 w.if-flag-eq1.true))
+      | else-flag-eq1 w ↦ w.cells-is ∙ sym (ap chosen (ne_eqb a.flag 1 w.if-flag-eq1.false))
+    ] in
+    system-made a.id a.flag a.place bs x y s g c.cell_bits-n.ensures (there (goal.at.returns c).In-At)
     (field-got (field 3 bs m) (field-ends 3 bs m) c.read_field-f.ensures c.in-Got.is) (eq-eqb _ 0 c.if-navigation-ne0.false) cells

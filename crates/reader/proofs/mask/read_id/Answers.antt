@@ -12,9 +12,10 @@ use Rattle.reader.specs.Steps.{field_answer}
 use Rattle.reader.proofs.Fields.{field-ends, field-got, field-bad, judged-bad, judged-wrong, judged-fine}
 use Rattle.reader.proofs.MaskSteps.{id-strange, id-twice, id-fine}
 use Rattle.reader.proofs.mask.read_id.Goals as goal
-use Rattle.reader.proofs.mask.read_id.Goals.{In-Got-2, Joined-else-id-first}
+use Rattle.reader.proofs.mask.read_id.Goals.{else-id-first-via-then-id-first+else-id-second, else-id-first-via-else-id-first}
+use Rattle.reader.proofs.mask.read_id.Goals.{In-Got, Joined-else-id-first}
 
-came : (k : In-Got-2) → let a = k.args in field 4 (bits_of a.octets.now) a.at ≡ got k.in-Got.id (a.at + 4)
+came : (k : In-Got) → let a = k.args in field 4 (bits_of a.octets.now) a.at ≡ got k.in-Got.id (a.at + 4)
 came k =
     let a = k.args in
     let bs = bits_of a.octets.now in
@@ -23,7 +24,10 @@ came k =
 one_of : (j : Joined-else-id-first) → let a = j.args in (j.in-Got.id ≡ a.first) ⊎ (j.in-Got.id ≡ a.second)
 one_of j =
     let a = j.args in
-    ⊎_elim (λ w. inr (eqb-true j.in-Got.id a.second (not-false _ w.1.left))) (λ w. inl w.left) j.else-id-first.branch
+    elim j.else-id-first.branch [
+      else-id-first-via-then-id-first+else-id-second w ↦ inr w.if-id-second.false
+      | else-id-first-via-else-id-first w ↦ inl w.if-id-first.false
+    ]
 
 pub returns-in_default : goal.returns-in_default
 returns-in_default c =
@@ -36,18 +40,18 @@ pub returns-then-id-second : goal.returns-then-id-second
 returns-then-id-second c =
     let a = c.args in
     ap Refused c.refuse.ensures
-    ∙ sym (ap field_answer (judged-wrong 4 (wrong_id (a.first ∷ a.second ∷ []) (a.came ∷ [])) (bits_of a.octets.now) a.at (came c.before.before.before.before)
-    (id-strange c.in-Got.id a.first a.second a.came c.if-id-first.true (eqb-false c.in-Got.id a.second (not-true _ c.if-id-second.true)))))
+    ∙ sym (ap field_answer (judged-wrong 4 (wrong_id (a.first ∷ a.second ∷ []) (a.came ∷ [])) (bits_of a.octets.now) a.at (came (goal.at.returns-then-id-second c).In-Got)
+    (id-strange c.in-Got.id a.first a.second a.came c.if-id-first.true c.if-id-second.true)))
 
 pub returns-then-id-came : goal.returns-then-id-came
 returns-then-id-came c =
     let a = c.args in
     ap Refused c.refuse-then-id-came.ensures
-    ∙ sym (ap field_answer (judged-wrong 4 (wrong_id (a.first ∷ a.second ∷ []) (a.came ∷ [])) (bits_of a.octets.now) a.at (came c.before.before.before.before)
-    (id-twice c.in-Got.id a.first a.second a.came (one_of c.before.before) c.if-id-came.true)))
+    ∙ sym (ap field_answer (judged-wrong 4 (wrong_id (a.first ∷ a.second ∷ []) (a.came ∷ [])) (bits_of a.octets.now) a.at (came (goal.at.returns-then-id-came c).In-Got)
+    (id-twice c.in-Got.id a.first a.second a.came (one_of (goal.at.returns-then-id-came c).Joined-else-id-first) c.if-id-came.true)))
 
 pub returns : goal.returns
 returns c =
     let a = c.args in
-    sym (ap field_answer (judged-fine 4 (wrong_id (a.first ∷ a.second ∷ []) (a.came ∷ [])) (bits_of a.octets.now) a.at (came c.before.before.before)
-    (id-fine c.in-Got.id a.first a.second a.came (one_of c.before) c.if-id-came.false)))
+    sym (ap field_answer (judged-fine 4 (wrong_id (a.first ∷ a.second ∷ []) (a.came ∷ [])) (bits_of a.octets.now) a.at (came (goal.at.returns c).In-Got)
+    (id-fine c.in-Got.id a.first a.second a.came (one_of (goal.at.returns c).Joined-else-id-first) c.if-id-came.false)))

@@ -12,15 +12,15 @@ use Rattle.reader.specs.Steps.{system_answer}
 use Rattle.reader.proofs.Fields.{field-ends, field-got, field-bad, step-bad, skipped, count-few}
 use Rattle.reader.proofs.SystemSteps.{satellites-bad, signals-bad, flag-bad, to-cells}
 use Rattle.reader.proofs.mask.read_system.Goals as goal
-use Rattle.reader.proofs.mask.read_system.Goals.{In-At-2, In-At-t-2}
+use Rattle.reader.proofs.mask.read_system.Goals.{In-At, In-At-t}
 
-signals-there : (k : In-At-2) → let a = k.args in
+signals-there : (k : In-At) → let a = k.args in
     (k.in-At.signals_at ≡ a.place + 40) × (fits_in (bits_of a.octets.now) a.place 40 ≡ true)
 signals-there k =
     let a = k.args in
     skipped 40 (bits_of a.octets.now) a.place k.skip-s.ensures k.in-At.is
 
-flag-there : (k : In-At-t-2) → let a = k.args in
+flag-there : (k : In-At-t) → let a = k.args in
     (k.in-At-t.flag_at ≡ k.in-At.signals_at + 16) × (fits_in (bits_of a.octets.now) k.in-At.signals_at 16 ≡ true)
 flag-there k =
     let a = k.args in
@@ -34,25 +34,25 @@ returns-in_default c =
 
 pub skip-t-requires : goal.skip-t-requires
 skip-t-requires c =
-    (omega (arith, (signals-there c.before).0, c.requires), omega arith)
+    (omega (arith, (signals-there c).0, c.requires), omega arith)
 
 pub returns-in_default-t : goal.returns-in_default-t
 returns-in_default-t c =
     let a = c.args in
     let bs = bits_of a.octets.now in
-    sym (ap (system_answer a.place) (signals-bad a.id a.place bs (signals-there c.before.before.before.before.before)
+    sym (ap (system_answer a.place) (signals-bad a.id a.place bs (signals-there (goal.at.returns-in_default-t c).In-At)
     (step-bad (raw 16 bs c.in-At.signals_at) c.skip-t.ensures c.in_default-t.is c.step_refusal-in_default-t.ensures)))
 
 pub returns-in_default-f : goal.returns-in_default-f
 returns-in_default-f c =
     let a = c.args in
     let bs = bits_of a.octets.now in
-    sym (ap (system_answer a.place) (flag-bad a.id a.place bs (signals-there c.before.before.before.before.before.before.before.before.before) (flag-there c.before.before.before.before.before)
+    sym (ap (system_answer a.place) (flag-bad a.id a.place bs (signals-there (goal.at.returns-in_default-f c).In-At) (flag-there (goal.at.returns-in_default-f c).In-At-t)
     (field-bad (field 1 bs c.in-At-t.flag_at) c.read_field-f.ensures c.in_default-f.is c.field_refusal.ensures)))
 
 pub count_bits-signals-requires : goal.count_bits-signals-requires
 count_bits-signals-requires c =
-    (omega (arith, (signals-there c.before.before.before.before.before.before.before.before.before.before).0, c.requires), omega arith)
+    (omega (arith, (signals-there (goal.at.count_bits-signals-requires c).In-At).0, c.requires), omega arith)
 
 pub end_system-requires : goal.end_system-requires
 end_system-requires c =
@@ -69,5 +69,5 @@ returns c =
     let bs = bits_of a.octets.now in
     let m = c.in-At-t.flag_at in
     let flag = field-got (field 1 bs m) (field-ends 1 bs m) c.read_field-f.ensures c.in-Got.is in
-    subst⁻¹ (λ (o : Outcome System). c.end_system.result ≡ system_answer a.place o) (to-cells a.id a.place bs (signals-there c.before.before.before.before.before.before.before.before.before.before.before.before) (flag-there c.before.before.before.before.before.before.before.before) flag)
+    subst⁻¹ (λ (o : Outcome System). c.end_system.result ≡ system_answer a.place o) (to-cells a.id a.place bs (signals-there (goal.at.returns c).In-At) (flag-there (goal.at.returns c).In-At-t) flag)
     (c.end_system.ensures (take 40 (drop a.place bs)) (take 16 (drop c.in-At.signals_at bs)) c.count_bits-satellites.ensures c.count_bits-signals.ensures)

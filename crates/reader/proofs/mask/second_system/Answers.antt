@@ -13,9 +13,9 @@ use Rattle.reader.proofs.Fields.{judged-ends, field-got, field-bad}
 use Rattle.reader.proofs.SystemSteps.{system-bad, system-got, system-near}
 use Rattle.reader.proofs.MaskSteps.{second-id-bad, second-bad, second-end}
 use Rattle.reader.proofs.mask.second_system.Goals as goal
-use Rattle.reader.proofs.mask.second_system.Goals.{In-Got-2}
+use Rattle.reader.proofs.mask.second_system.Goals.{In-Got}
 
-id-there : (k : In-Got-2) → let a = k.args in
+id-there : (k : In-Got) → let a = k.args in
     judged 4 (wrong_id known (a.first.id ∷ [])) (bits_of a.octets.now) a.at ≡ got k.in-Got.id (a.at + 4)
 id-there k =
     let a = k.args in
@@ -34,7 +34,7 @@ pub returns-in_default-s : goal.returns-in_default-s
 returns-in_default-s c =
     let a = c.args in
     let bs = bits_of a.octets.now in
-    sym (ap (second_answer a.first a.at) (second-bad a.first.id a.at bs (id-there c.before.before.before.before.before)
+    sym (ap (second_answer a.first a.at) (second-bad a.first.id a.at bs (id-there (goal.at.returns-in_default-s c).In-Got)
     (system-bad (a.at + 4) (system c.in-Got.id bs (a.at + 4)) c.read_system-s.ensures c.in_default-s.is c.system_refusal.ensures)))
 
 pub end_mask-requires : goal.end_mask-requires
@@ -49,4 +49,4 @@ returns c =
     let end = c.in-Got-s.end in
     system-got (a.at + 4) (system c.in-Got.id bs (a.at + 4)) c.read_system-s.ensures c.in-Got-s.is λ t e p.
     c.end_mask.ensures ∙ ap (λ (plan : SystemPlan). mask_end (record { systems = 2; first = a.first; second = plan }) (field 6 bs end)) p
-    ∙ sym (second-end a.first.id a.at bs (id-there c.before.before.before.before.before.before) a.first e)
+    ∙ sym (second-end a.first.id a.at bs (id-there (goal.at.returns c).In-Got) a.first e)

@@ -17,36 +17,30 @@ use Rattle.reader.proofs.Messages.{message-bad, own-bad, own_read, none_made, no
 use Rattle.reader.proofs.plan.plan_message.Goals as goal
 use Rattle.reader.proofs.plan.plan_message.Goals.{Else-number_at-gt3599, In-Got, Start}
 
-lent : (c : Start) → Lent
-lent s =
-    record { id = s.args.mask-id; octets = s.args.mask.now }
-
-bits : (c : Start) → List Bool
-bits s =
-    bits_of s.args.octets.now
-
-long : (s : Start) → 32 ≤ length (bits s)
+long : (s : Start) → 32 ≤ length (bits_of s.args.octets.now)
 long s =
     omega (arith, s.requires.1, length-bits_of s.args.octets.now)
 
-header_read : (c : Else-number_at-gt3599) → (h : Header) × (header (bits c.before.before.before.before) 0 ≡ got h 32)
+header_read : (c : Else-number_at-gt3599) → (h : Header) × (header (bits_of c.args.octets.now) 0 ≡ got h 32)
 header_read c =
-    header-got (bits c.before.before.before.before) (long c.before.before.before.before) (omega (arith, c.if-number_at-gt3599.false, c.number_at.ensures))
+    let long' : 32 ≤ length (bits_of c.args.octets.now) = omega (arith, c.requires.1, length-bits_of c.args.octets.now) in
+    header-got (bits_of c.args.octets.now) long' (omega (arith, c.if-number_at-gt3599.false, c.number_at.ensures))
 
-own-mask : (c : In-Got) → (m : Mask) × Found (bits c.before.before.before.before.before.before.before.before.before.before) 32 m c.in-Got.plan c.in-Got.at
+own-mask : (c : In-Got) → (m : Mask) × Found (bits_of c.args.octets.now) 32 m c.in-Got.plan c.in-Got.at
 own-mask c =
-    found (bits c.before.before.before.before.before.before.before.before.before.before) 32 (omega arith) (long c.before.before.before.before.before.before.before.before.before.before) c.read_mask-m.ensures c.in-Got.is
+    let long' : 32 ≤ length (bits_of c.args.octets.now) = omega (arith, c.requires.1, length-bits_of c.args.octets.now) in
+    found (bits_of c.args.octets.now) 32 (omega arith) long' c.read_mask-m.ensures c.in-Got.is
 
 pub returns-then-number_at-gt3599 : goal.returns-then-number_at-gt3599
 returns-then-number_at-gt3599 c =
-    message-bad (lent c.before.before.before.before.before) c.args.octets.now
-    (header-bad (bits c.before.before.before.before.before) (long c.before.before.before.before.before) (omega (arith, c.if-number_at-gt3599.true, c.number_at.ensures)) ∙ ap bad (sym c.refuse.ensures))
+    message-bad (record { id = c.args.mask_id; octets = c.args.mask.now }) c.args.octets.now
+    (header-bad (bits_of c.args.octets.now) (long (goal.at.returns-then-number_at-gt3599 c).Start) (omega (arith, c.if-number_at-gt3599.true, c.number_at.ensures)) ∙ ap bad (sym c.refuse.ensures))
 
 pub returns-in_default : goal.returns-in_default
 returns-in_default c =
-    let (h, e) = header_read c.before.before.before.before.before.before in
-    own-bad (lent c.before.before.before.before.before.before.before.before.before.before) c.args.octets.now h e c.requires.0 (sym c.bit_at.ensures ∙ c.if-bit_at.true)
-    (mask-refused (mask (bits c.before.before.before.before.before.before.before.before.before.before) 32) 32 c.read_mask-m.ensures c.in_default.is c.mask_refusal.ensures)
+    let (h, e) = header_read (goal.at.returns-in_default c).Else-number_at-gt3599 in
+    own-bad (record { id = c.args.mask_id; octets = c.args.mask.now }) c.args.octets.now h e c.requires.0 (sym c.bit_at.ensures ∙ c.if-bit_at.true)
+    (mask-refused (mask (bits_of c.args.octets.now) 32) 32 c.read_mask-m.ensures c.in_default.is c.mask_refusal.ensures)
 
 pub plan_blocks-requires : goal.plan_blocks-requires
 plan_blocks-requires c =
@@ -55,16 +49,16 @@ plan_blocks-requires c =
 
 pub returns-then-bit_at : goal.returns-then-bit_at
 returns-then-bit_at c =
-    let (h, e) = header_read c.before.before.before.before.before.before.before in
-    let (m, w) = own-mask c.before in
-    own_read (lent c.before.before.before.before.before.before.before.before.before.before.before) c.args.octets.now h e c.requires.0 m c.plan_blocks.result (sym c.bit_at.ensures ∙ c.if-bit_at.true) w
-    (c.plan_blocks.ensures h (some m) m.systems w.stands.made.0 (header_at (bits c.before.before.before.before.before.before.before.before.before.before.before) h e).flags w.stands.made.1)
+    let (h, e) = header_read (goal.at.returns-then-bit_at c).Else-number_at-gt3599 in
+    let (m, w) = own-mask (goal.at.returns-then-bit_at c).In-Got in
+    own_read (record { id = c.args.mask_id; octets = c.args.mask.now }) c.args.octets.now h e c.requires.0 m c.plan_blocks.result (sym c.bit_at.ensures ∙ c.if-bit_at.true) w
+    (c.plan_blocks.ensures h (some m) m.systems w.stands.made.0 (header_at (bits_of c.args.octets.now) h e).flags w.stands.made.1)
 
 pub returns-then-needs_mask : goal.returns-then-needs_mask
 returns-then-needs_mask c =
-    let (h, e) = header_read c.before.before.before.before.before in
-    let n = sym (c.needs_mask.ensures h (header_at (bits c.before.before.before.before.before.before.before.before.before) h e).flags) ∙ c.if-needs_mask.true in
-    lent-message (lent c.before.before.before.before.before.before.before.before.before) c.args.octets.now h e c.requires.0 (sym c.bit_at.ensures ∙ c.if-bit_at.false) c.plan_lent.result n (c.plan_lent.ensures h e n)
+    let (h, e) = header_read (goal.at.returns-then-needs_mask c).Else-number_at-gt3599 in
+    let n = sym (c.needs_mask.ensures h (header_at (bits_of c.args.octets.now) h e).flags) ∙ c.if-needs_mask.true in
+    lent-message (record { id = c.args.mask_id; octets = c.args.mask.now }) c.args.octets.now h e c.requires.0 (sym c.bit_at.ensures ∙ c.if-bit_at.false) c.plan_lent.result n (c.plan_lent.ensures h e n)
 
 pub plan_blocks-requires-2 : goal.plan_blocks-requires-2
 plan_blocks-requires-2 c =
@@ -73,9 +67,9 @@ plan_blocks-requires-2 c =
 
 pub returns : goal.returns
 returns c =
-    let (h, e) = header_read c.before.before.before.before.before.before in
-    let x = (header_at (bits c.before.before.before.before.before.before.before.before.before.before) h e).flags in
+    let (h, e) = header_read (goal.at.returns c).Else-number_at-gt3599 in
+    let x = (header_at (bits_of c.args.octets.now) h e).flags in
     let n = sym (c.needs_mask.ensures h x) ∙ c.if-needs_mask.false in
     let k = c.no_mask.ensures 0 in
-    none_read (lent c.before.before.before.before.before.before.before.before.before.before) c.args.octets.now h e c.requires.0 (sym c.bit_at.ensures ∙ c.if-bit_at.false) c.plan_blocks-2.result n k
+    none_read (record { id = c.args.mask_id; octets = c.args.mask.now }) c.args.octets.now h e c.requires.0 (sym c.bit_at.ensures ∙ c.if-bit_at.false) c.plan_blocks-2.result n k
     (c.plan_blocks-2.ensures h none [] 0 x (none_made k))

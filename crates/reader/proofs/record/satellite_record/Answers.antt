@@ -29,13 +29,13 @@ near c =
     onwards-le c.args.rows.orbit (c.args.n * (w + 37)) 200000 c.onward-orbit.ensures (omega (arith, c.requires.0.orbit, orbit-room c.args.n w (search rules) (search rules)))
 
 pub onward-requires : goal.onward-requires
-onward-requires c = (near c.before, search rules)
+onward-requires c = (near (goal.at.onward-requires c).After-onward-orbit, search rules)
 
 pub onward-requires-2 : goal.onward-requires-2
-onward-requires-2 c = (near c.before.before.before.before, search rules)
+onward-requires-2 c = (near (goal.at.onward-requires-2 c).After-onward-orbit, search rules)
 
 pub onward-requires-3 : goal.onward-requires-3
-onward-requires-3 c = (near c.before.before.before.before.before.before.before, search rules)
+onward-requires-3 c = (near (goal.at.onward-requires-3 c).After-onward-orbit, search rules)
 
 pub subset_clock_at-requires : goal.subset_clock_at-requires
 subset_clock_at-requires c =
