@@ -16,7 +16,7 @@ pub loop-i-preserved : goal.loop-i-preserved
 loop-i-preserved c =
     let l = c.loop-i in
     let w = c.write_place in
-    let eight : length c.args.head.places ≡ 8 = simp length-map at c.well_formed.0.1.1.1.1.0.1.0.1 in (
+    let eight : length c.args.head.places ≡ 8 = search rules in (
       search rules,
       search rules,
       l.invariant.2,
@@ -26,7 +26,7 @@ loop-i-preserved c =
 pub returns : goal.returns
 returns c =
     let l = c.loop-i in
-    let eight : length c.args.head.places ≡ 8 = simp length-map at c.well_formed.0.1.1.1.1.0.1.0.1 in
+    let eight : length c.args.head.places ≡ 8 = search rules in
     head-laid c.args.out.now c.args.head _ _ _ l.i (search rules) eight (omega arith)
     c.put_word.ensures
     c.put_word-2.ensures
