@@ -71,7 +71,7 @@ pub extern "C" fn has_read(message: &[u8], mask_id: u64, mask: &[u8], records: &
 // The message of records; the value is its size.
 #[unsafe(no_mangle)]
 pub extern "C" fn has_write(records: &[u8], mask_id: u64, mask: &[u8], out: &mut [u8]) -> u64
-    ensures { Codes (λ a. Writes (record { records = records.entry.now; lent = record { id = mask_id; octets = mask.now }; room = length out.old }) out.old a out.new) write_code result }
+    ensures { Codes (λ a. Writes (record { records = records.now; lent = record { id = mask_id; octets = mask.now }; room = length out.old }) out.old a out.new) write_code result }
 {
     write_code(writer::write(records, mask_id, mask, out))
 }
@@ -87,8 +87,8 @@ pub extern "C" fn has_reference_time(second: u64, time: u64) -> u64
 // A fresh collector, in octets; the value is 0.
 #[unsafe(no_mangle)]
 pub extern "C" fn has_start(head: &mut [u8], store: &mut [u8], timeout: u64) -> u64
-    ensures { Is (page_code 0 (started_answer (record { head = head.entry.now; store = store.old }) timeout)) result
-        × (record { head = head.exit.now; store = store.new } ≡ started (record { head = head.entry.now; store = store.old }) timeout) }
+    ensures { Is (page_code 0 (started_answer (record { head = head.old; store = store.old }) timeout)) result
+        × (record { head = head.new; store = store.new } ≡ started (record { head = head.old; store = store.old }) timeout) }
 {
     page_code(image::start(head, store, timeout), 0)
 }
@@ -102,8 +102,8 @@ pub extern "C" fn has_feed(
     page: &[u8],
     out: &mut [u8],
 ) -> u64
-    ensures { Codes (λ a. Feeds (record { head = head.entry.now; store = store.old }) (record { second = second; page = page.now; room = length out.old }) out.old a
-        (record { head = head.exit.now; store = store.new }) out.new) fed_code result }
+    ensures { Codes (λ a. Feeds (record { head = head.old; store = store.old }) (record { second = second; page = page.now; room = length out.old }) out.old a
+        (record { head = head.new; store = store.new }) out.new) fed_code result }
 {
     fed_code(image::feed(head, store, second, page, out))
 }

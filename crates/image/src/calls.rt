@@ -14,7 +14,7 @@ const STORE_OCTETS: usize = 13568;
 
 // Whether head and store have their lengths.
 fn are_long(head: &[u8], store: &[u8]) -> bool
-    ensures { result ≡ is_long (record { head = head.entry.now; store = store.now }) }
+    ensures { result ≡ is_long (record { head = head.now; store = store.now }) }
 {
     if head.len() != HEAD_OCTETS {
         return false;
@@ -36,8 +36,8 @@ fn fresh_head(timeout: u64) -> Head
 
 // A fresh collector of a time-out of 1 to 600 s.
 pub fn start(head: &mut [u8], store: &mut [u8], timeout: u64) -> Answer
-    ensures { (result ≡ started_answer (record { head = head.entry.now; store = store.old }) timeout)
-        × (record { head = head.exit.now; store = store.new } ≡ started (record { head = head.entry.now; store = store.old }) timeout) }
+    ensures { (result ≡ started_answer (record { head = head.old; store = store.old }) timeout)
+        × (record { head = head.new; store = store.new } ≡ started (record { head = head.old; store = store.old }) timeout) }
 {
     if !are_long(head, store) {
         return Answer::Refused(Refusal::Length);
@@ -53,7 +53,7 @@ pub fn start(head: &mut [u8], store: &mut [u8], timeout: u64) -> Answer
 
 // Whether octets are those of a collector that our calls made. `held` is the head that was read of them; it must be written to the same octets.
 fn is_image(held: Head, head: &[u8], store: &[u8]) -> bool
-    ensures { Decides result (Holds held (record { head = head.entry.now; store = store.now })) }
+    ensures { Decides result (Holds held (record { head = head.now; store = store.now })) }
 {
     let mut again = [0u8; HEAD_OCTETS];
     write_head(held, &mut again);
@@ -65,8 +65,8 @@ fn is_image(held: Head, head: &[u8], store: &[u8]) -> bool
 
 // A feed: a second, a page and an output buffer.
 pub fn feed(head: &mut [u8], store: &mut [u8], second: u64, page: &[u8], out: &mut [u8]) -> Fed
-    ensures { Feeds (record { head = head.entry.now; store = store.old }) (record { second = second; page = page.now; room = length out.old }) out.old result
-        (record { head = head.exit.now; store = store.new }) out.new }
+    ensures { Feeds (record { head = head.old; store = store.old }) (record { second = second; page = page.now; room = length out.old }) out.old result
+        (record { head = head.new; store = store.new }) out.new }
 {
     if !are_long(head, store) {
         return Fed::Refused(Refusal::Length);

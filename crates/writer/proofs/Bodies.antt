@@ -25,8 +25,8 @@ front-octets (a ∷ x) y h zero = h 0
 front-octets (a ∷ x) y h (suc i) = front-octets x y (λ j. h (suc j)) i
 
 -- all of a list is copied
-pub copied : (x d after : List ℕ) (n : ℕ) → length x ≡ n → after ≡ take (length x) x ++ drop (length x) d → after ≡ x ++ drop n d
-copied x d after n e q = q ∙ ap₂ (λ (a b : List ℕ). a ++ b) (take_all (length x) x (omega arith)) (ap (λ (i : ℕ). drop i d) e)
+pub copied : (x d after : List ℕ) (n : ℕ) → length x ≡ n → after ≡ x ++ drop (length x) d → after ≡ x ++ drop n d
+copied x d after n e q = q ∙ ap (λ (i : ℕ). x ++ drop i d) e
 
 laid-front : (d x y : List ℕ) (n : ℕ) → x ≡ y → length y ≡ n → laid d 0 x ≡ y ++ drop n d
 unfolding laid

@@ -1,5 +1,5 @@
 // The writer of message type 1 (document 01, Records).
-ghost use Rattle.std.specs.Prelude.{◌≡◌, true, false, ◌+◌, ◌≤◌, length};
+ghost use Rattle.std.specs.Prelude.{◌≡◌, true, false, ◌+◌, ◌≤◌, ◌++◌, drop, length};
 ghost use Rattle.bits.specs.Bits.{bits_of};
 ghost use Rattle.refusal.specs.declared.Refusal.{Refusal};
 ghost use Rattle.writer.specs.declared.writing.WriteAnswer.TheVariants as write-answer;
@@ -60,6 +60,15 @@ fn reads_back(octets: &[u8], mask_id: u64, mask: &[u8], records: &[u8]) -> bool
     false
 }
 
+// Copies octets to the start of a buffer that has room for them.
+fn copy_front(octets: &[u8], out: &mut [u8])
+    requires { length octets.now ≤ length out.old }
+    ensures { out.new ≡ octets.now ++ drop (length octets.now) out.old }
+{
+    let n = octets.len();
+    out[..n].copy_from_slice(octets);
+}
+
 // The message of whole records, whose header is one that a message has, and whose mask is there.
 fn write_body(records: &[u8], mask_id: u64, mask: &[u8], out: &mut [u8]) -> WriteAnswer
     requires { (16 ≤ length records.now) × Whole records.now × (length out.old ≡ 1696) }
@@ -76,13 +85,13 @@ fn write_body(records: &[u8], mask_id: u64, mask: &[u8], out: &mut [u8]) -> Writ
     }
     let size = (end + (PAGE_BITS - 1)) / PAGE_BITS;
     fill(&mut body, end, PAGE_BITS * size - end);
-    bytes::copy(&body[..PAGE_OCTETS * size], out);
+    copy_front(&body[..PAGE_OCTETS * size], out);
     WriteAnswer::Size(size as u64)
 }
 
 // Writes the message of records of 16 octets, with a lent mask, in the fewest pages.
 pub fn write(records: &[u8], mask_id: u64, mask: &[u8], out: &mut [u8]) -> WriteAnswer
-    ensures { Writes (record { records = records.entry.now; lent = record { id = mask_id; octets = mask.now }; room = length out.old }) out.old result out.new }
+    ensures { Writes (record { records = records.now; lent = record { id = mask_id; octets = mask.now }; room = length out.old }) out.old result out.new }
 {
     if out.len() != MESSAGE_OCTETS {
         return WriteAnswer::Refused(Refusal::Out);
