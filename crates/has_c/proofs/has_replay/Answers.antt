@@ -1,0 +1,7 @@
+-- The value is below 2^32, and the code is that of the answer.
+use borrow.Author.Rules.{rules}
+use Rattle.has_c.proofs.Values.{replay-few}
+use Rattle.has_c.proofs.has_replay.Goals as goal
+
+pub replay_code-requires : goal.replay_code-requires
+replay_code-requires c = replay-few _ _ _ _ _ (λ i. (c.type_inv.entries i).fits) c.replay.ensures

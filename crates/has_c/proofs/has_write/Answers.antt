@@ -1,0 +1,7 @@
+-- The value is below 2^32, and the code is that of the answer.
+use borrow.Author.Rules.{rules}
+use Rattle.has_c.proofs.Values.{write-few}
+use Rattle.has_c.proofs.has_write.Goals as goal
+
+pub write_code-requires : goal.write_code-requires
+write_code-requires c = write-few _ _ _ _ c.write.ensures
