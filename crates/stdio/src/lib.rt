@@ -17,9 +17,9 @@ pub fn print_decimal(rt: &impl Print, n: u64) -> io::Result<()> {
     rt.print(n)
 }
 
-// The octet in two digits of lower-case hex.
-pub fn print_hex(rt: &impl Print, octet: u8) -> io::Result<()> {
-    print!(rt; "{octet:02x}")
+// The number in lower-case hex, with noughts in front up to so many digits, and with no line end.
+pub fn print_hex(rt: &impl Print, n: u64, digits: usize) -> io::Result<()> {
+    print!(rt; "{n:0digits$x}")
 }
 
 // Reads until the buffer is full or the input ends, and returns how many octets it put at the start of the buffer.
