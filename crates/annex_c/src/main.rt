@@ -5,10 +5,10 @@ mod pages;
 
 ghost use Rattle.std.specs.Prelude.{◌≤◌};
 
-use libc::STDOUT_FILENO;
 use pagecode::Answer;
 use pages::{CONTENTS, NUMBERS};
 use reader::{RECORDS_OCTETS, ReadAnswer};
+use std::io;
 use writer::{MESSAGE_OCTETS, WriteAnswer};
 
 fn wide(x: u8) -> u64 {
@@ -16,13 +16,13 @@ fn wide(x: u8) -> u64 {
 }
 
 // Prints octets in hexadecimal, on a line.
-fn print_octets(octets: &[u8]) {
+fn print_octets(rt: &impl Print, octets: &[u8]) -> io::Result<()> {
     let mut i: usize = 0;
     while i < octets.len() {
-        io::print_hex(STDOUT_FILENO, wide(octets[i]), 2);
+        stdio::print_hex(rt, wide(octets[i]), 2)?;
         i += 1;
     }
-    io::write_all(STDOUT_FILENO, b"\n");
+    stdio::write_all(rt, b"\n")
 }
 
 // Whether the message's page with this number has these contents. The example's pages have status 0 and message number 15.
@@ -49,60 +49,55 @@ fn is_written_again(records: [u8; RECORDS_OCTETS], n: usize, message: &[u8]) -> 
 }
 
 // How many records the message has, and whether they are written to it again.
-fn print_reading(message: [u8; 1696]) {
+fn print_reading(rt: &impl Print, message: [u8; 1696]) -> io::Result<()> {
     let none = [0u8; 0];
     let mut records = [0u8; RECORDS_OCTETS];
     let answer = reader::read(&message[..795], 0, &none, &mut records);
     let ReadAnswer::Records(n) = answer else {
-        io::write_all(STDOUT_FILENO, b"It does not read as message type 1.\n");
-        return;
+        stdio::write_all(rt, b"It does not read as message type 1.\n")?;
+        return Ok(());
     };
-    io::write_all(
-        STDOUT_FILENO,
-        b"Records that it has, read as message type 1: ",
-    );
-    io::print_decimal(STDOUT_FILENO, n);
-    io::write_all(STDOUT_FILENO, b"\n");
+    stdio::write_all(rt, b"Records that it has, read as message type 1: ")?;
+    stdio::print_decimal(rt, n)?;
+    stdio::write_all(rt, b"\n")?;
     if n > 1363 {
-        return;
+        return Ok(());
     }
     if is_written_again(records, n as usize, &message[..795]) {
-        io::write_all(
-            STDOUT_FILENO,
-            b"Written again from its records: the same octets.\n",
-        );
+        stdio::write_all(rt, b"Written again from its records: the same octets.\n")?;
     }
+    Ok(())
 }
 
-fn main() {
+fn main(rt: HostRuntime) -> io::Result<()> {
     let contents = CONTENTS;
     let numbers = NUMBERS;
     let mut message = [0u8; 1696];
     let answer = pagecode::solve(&contents, &numbers, &mut message);
     let Answer::Good = answer else {
-        io::write_all(STDOUT_FILENO, b"refused\n");
-        return;
+        stdio::write_all(&rt, b"refused\n")?;
+        return Ok(());
     };
-    io::write_all(
-        STDOUT_FILENO,
+    stdio::write_all(
+        &rt,
         b"The message of 15 pages that Annex C of the HAS SIS ICD sends:\n",
-    );
+    )?;
     let mut i: usize = 0;
     let mut same: usize = 0;
     while i < 15 {
         let start = i * 53;
         let end = start + 53;
-        print_octets(&message[start..end]);
+        print_octets(&rt, &message[start..end])?;
         if has_page(&message[..795], numbers[i], &contents[start..end]) {
             same += 1;
         }
         i += 1;
     }
     if same == 15 {
-        io::write_all(
-            STDOUT_FILENO,
+        stdio::write_all(
+            &rt,
             b"Encoded again at its 15 page numbers: the same pages.\n",
-        );
+        )?;
     }
-    print_reading(message);
+    print_reading(&rt, message)
 }

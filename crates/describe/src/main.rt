@@ -8,18 +8,18 @@ mod names;
 mod words;
 
 use amount::print_amount;
-use libc::STDOUT_FILENO;
 use mt1::IntervalAnswer;
 use names::{print_satellite, print_signal};
 use reader::{RECORDS_OCTETS, ReadAnswer};
+use std::io;
 use words::print_cause;
 
-fn print(text: &[u8]) {
-    io::write_all(STDOUT_FILENO, text);
+fn print(rt: &impl Print, text: &[u8]) -> io::Result<()> {
+    stdio::write_all(rt, text)
 }
 
-fn print_number(n: u64) {
-    io::print_decimal(STDOUT_FILENO, n);
+fn print_number(rt: &impl Print, n: u64) -> io::Result<()> {
+    stdio::print_decimal(rt, n)
 }
 
 fn wide(x: u8) -> u64 {
@@ -34,30 +34,30 @@ fn pair(high: u8, low: u8) -> u64
 }
 
 // A block that is there, and for how long it is valid.
-fn print_block(name: &[u8], index: u8) {
+fn print_block(rt: &impl Print, name: &[u8], index: u8) -> io::Result<()> {
     let interval = mt1::interval_seconds(wide(index));
     let IntervalAnswer::Seconds(seconds) = interval else {
-        return;
+        return Ok(());
     };
-    print(name);
-    print(b", valid for ");
-    print_number(seconds);
-    print(b" s\n");
+    print(rt, name)?;
+    print(rt, b", valid for ")?;
+    print_number(rt, seconds)?;
+    print(rt, b" s\n")
 }
 
-fn describe_header(r: [u8; 16]) {
-    print(b"Time of hour ");
-    print_number(pair(r[4], r[5]));
-    print(b" s, Mask ID ");
-    print_number(wide(r[2]));
-    print(b", IOD Set ID ");
-    print_number(wide(r[3]));
-    print(b"\n");
-    print_block(b"Orbit corrections", r[6]);
-    print_block(b"Clock corrections of all satellites", r[7]);
-    print_block(b"Clock corrections of a subset", r[8]);
-    print_block(b"Code biases", r[9]);
-    print_block(b"Phase biases", r[10]);
+fn describe_header(rt: &impl Print, r: [u8; 16]) -> io::Result<()> {
+    print(rt, b"Time of hour ")?;
+    print_number(rt, pair(r[4], r[5]))?;
+    print(rt, b" s, Mask ID ")?;
+    print_number(rt, wide(r[2]))?;
+    print(rt, b", IOD Set ID ")?;
+    print_number(rt, wide(r[3]))?;
+    print(rt, b"\n")?;
+    print_block(rt, b"Orbit corrections", r[6])?;
+    print_block(rt, b"Clock corrections of all satellites", r[7])?;
+    print_block(rt, b"Clock corrections of a subset", r[8])?;
+    print_block(rt, b"Code biases", r[9])?;
+    print_block(rt, b"Phase biases", r[10])
 }
 
 // A multiplier field, 0 to 3 meaning 1 to 4; 255 if there is none.
@@ -67,66 +67,72 @@ fn multiplier(field: u8) -> u64
     if field > 3 { 1 } else { field as u64 + 1 }
 }
 
-fn describe_system(r: [u8; 16]) {
+fn describe_system(rt: &impl Print, r: [u8; 16]) -> io::Result<()> {
     if r[2] == 0 {
-        print(b"GPS\n");
+        print(rt, b"GPS\n")
     } else {
-        print(b"Galileo\n");
+        print(rt, b"Galileo\n")
     }
 }
 
 // A clock, in units of 0.0025 m times its multiplier; nothing if it is absent.
-fn describe_clock(name: &[u8], v: u64, times: u64)
+fn describe_clock(rt: &impl Print, name: &[u8], v: u64, times: u64) -> io::Result<()>
     requires { (v < 65536) × (times ≤ 4) }
 {
     if v == 32768 {
-        return;
+        return Ok(());
     }
-    print(name);
+    print(rt, name)?;
     if v == 4095 {
-        print(b"do not use");
-        return;
+        print(rt, b"do not use")?;
+        return Ok(());
     }
-    print_amount(v, 61440, 25 * times, 4, b" m");
+    print_amount(rt, v, 61440, 25 * times, 4, b" m")
 }
 
-fn describe_satellite(id: u8, times: u64, others: u64, r: [u8; 16])
+fn describe_satellite(
+    rt: &impl Print,
+    id: u8,
+    times: u64,
+    others: u64,
+    r: [u8; 16],
+) -> io::Result<()>
     requires { (times ≤ 4) × (others ≤ 4) }
 {
-    print(b"  ");
-    print_satellite(id, r[2]);
+    print(rt, b"  ")?;
+    print_satellite(rt, id, r[2])?;
     let iod = pair(r[4], r[5]);
     if iod != 65535 {
-        print(b": IOD ");
-        print_number(iod);
-        print(b", radial ");
-        print_amount(pair(r[6], r[7]), 61440, 25, 4, b" m");
-        print(b", in-track ");
-        print_amount(pair(r[8], r[9]), 63488, 80, 4, b" m");
-        print(b", cross-track ");
-        print_amount(pair(r[10], r[11]), 63488, 80, 4, b" m");
+        print(rt, b": IOD ")?;
+        print_number(rt, iod)?;
+        print(rt, b", radial ")?;
+        print_amount(rt, pair(r[6], r[7]), 61440, 25, 4, b" m")?;
+        print(rt, b", in-track ")?;
+        print_amount(rt, pair(r[8], r[9]), 63488, 80, 4, b" m")?;
+        print(rt, b", cross-track ")?;
+        print_amount(rt, pair(r[10], r[11]), 63488, 80, 4, b" m")?;
     }
-    describe_clock(b", clock ", pair(r[12], r[13]), times);
-    describe_clock(b", clock of the subset ", pair(r[14], r[15]), others);
-    print(b"\n");
+    describe_clock(rt, b", clock ", pair(r[12], r[13]), times)?;
+    describe_clock(rt, b", clock of the subset ", pair(r[14], r[15]), others)?;
+    print(rt, b"\n")
 }
 
-fn describe_cell(id: u8, r: [u8; 16]) {
+fn describe_cell(rt: &impl Print, id: u8, r: [u8; 16]) -> io::Result<()> {
     let code = pair(r[4], r[5]);
     let phase = pair(r[6], r[7]);
-    print(b"    ");
-    print_signal(id, r[3]);
+    print(rt, b"    ")?;
+    print_signal(rt, id, r[3])?;
     if code != 32768 {
-        print(b", code ");
-        print_amount(code, 64512, 2, 2, b" m");
+        print(rt, b", code ")?;
+        print_amount(rt, code, 64512, 2, 2, b" m")?;
     }
     if phase != 32768 {
-        print(b", phase ");
-        print_amount(phase, 64512, 1, 2, b" cycles");
-        print(b", discontinuity ");
-        print_number(wide(r[8]));
+        print(rt, b", phase ")?;
+        print_amount(rt, phase, 64512, 1, 2, b" cycles")?;
+        print(rt, b", discontinuity ")?;
+        print_number(rt, wide(r[8]))?;
     }
-    print(b"\n");
+    print(rt, b"\n")
 }
 
 // An octet of the buffer; 0 behind its end.
@@ -151,14 +157,14 @@ fn record_at(records: &[u8], k: u64) -> [u8; 16] {
     r
 }
 
-fn describe_record(id: u8, times: u64, others: u64, r: [u8; 16])
+fn describe_record(rt: &impl Print, id: u8, times: u64, others: u64, r: [u8; 16]) -> io::Result<()>
     requires { (times ≤ 4) × (others ≤ 4) }
 {
     match r[0] {
-        1 => describe_header(r),
-        2 => describe_system(r),
-        3 => describe_satellite(id, times, others, r),
-        _ => describe_cell(id, r),
+        1 => describe_header(rt, r),
+        2 => describe_system(rt, r),
+        3 => describe_satellite(rt, id, times, others, r),
+        _ => describe_cell(rt, id, r),
     }
 }
 
@@ -169,7 +175,7 @@ fn after(is: u8, r: [u8; 16], i: usize) -> u8
     if r[0] == 2 { r[i] } else { is }
 }
 
-fn describe_records(records: &[u8], n: u64) {
+fn describe_records(rt: &impl Print, records: &[u8], n: u64) -> io::Result<()> {
     let mut id: u8 = 0;
     let mut times: u8 = 0;
     let mut others: u8 = 0;
@@ -179,19 +185,20 @@ fn describe_records(records: &[u8], n: u64) {
         id = after(id, r, 2);
         times = after(times, r, 5);
         others = after(others, r, 6);
-        describe_record(id, multiplier(times), multiplier(others), r);
+        describe_record(rt, id, multiplier(times), multiplier(others), r)?;
         k += 1;
     }
+    Ok(())
 }
 
-fn main() {
+fn main(rt: HostRuntime) -> io::Result<()> {
     let mut input = [0u8; 1697];
-    let n = io::read_full(libc::STDIN_FILENO, &mut input);
+    let n = stdio::read_full(&rt, &mut input)?;
     let none = [0u8; 0];
     let mut records = [0u8; RECORDS_OCTETS];
     let answer = reader::read(&input[..n], 0, &none, &mut records);
     match answer {
-        ReadAnswer::Records(count) => describe_records(&records, count),
-        ReadAnswer::Refused(r) => print_cause(r),
+        ReadAnswer::Records(count) => describe_records(&rt, &records, count),
+        ReadAnswer::Refused(r) => print_cause(&rt, r),
     }
 }

@@ -9,9 +9,9 @@ ghost use Rattle.std.specs.Prelude.{◌≡◌, ◌+◌, ◌≤◌};
 ghost use Rattle.pagecode.specs.Encode.{encode_answer};
 ghost use Rattle.encode.specs.Pages.{pages_answer};
 
-use libc::{STDIN_FILENO, STDOUT_FILENO};
 use pagecode::Answer;
 use refusal::Refusal;
+use std::io;
 
 // 3 octets and 255 page numbers, and an octet more than a message may have: with fewer page numbers, the more of the message is kept.
 const INPUT_OCTETS: usize = 1955;
@@ -27,17 +27,17 @@ fn wide(x: u8) -> u64
     x as u64
 }
 
-fn print_refused(why: Refusal) {
-    io::write_all(STDOUT_FILENO, b"REFUSED ");
-    io::print_decimal(STDOUT_FILENO, refusal::number(why));
-    io::write_all(STDOUT_FILENO, b"\n");
+fn print_refused(rt: &impl Print, why: Refusal) -> io::Result<()> {
+    stdio::write_all(rt, b"REFUSED ")?;
+    stdio::print_decimal(rt, refusal::number(why))?;
+    stdio::write_all(rt, b"\n")
 }
 
-fn print_page(page: [u8; PAGE_OCTETS]) {
+fn print_page(rt: &impl Print, page: [u8; PAGE_OCTETS]) -> io::Result<()> {
     let mut text = [0u8; 112];
     let n = hex_text::spell(&page, &mut text);
-    io::write_all(STDOUT_FILENO, &text[..n]);
-    io::write_all(STDOUT_FILENO, b"\n");
+    stdio::write_all(rt, &text[..n])?;
+    stdio::write_all(rt, b"\n")
 }
 
 // The answer to one page.
@@ -63,21 +63,34 @@ fn judge_pages(message: &[u8], status: u64, number: u64, pages: &[u8]) -> Answer
     Answer::Good
 }
 
-fn print_pages(message: &[u8], status: u64, number: u64, pages: &[u8]) {
+fn print_pages(
+    rt: &impl Print,
+    message: &[u8],
+    status: u64,
+    number: u64,
+    pages: &[u8],
+) -> io::Result<()> {
     let mut i: usize = 0;
     while i < pages.len() {
         let mut page = [0u8; PAGE_OCTETS];
         pagecode::encode_page(message, status, number, wide(pages[i]), &mut page);
-        print_page(page);
+        print_page(rt, page)?;
         i += 1;
     }
+    Ok(())
 }
 
-fn encode_pages(message: &[u8], status: u64, number: u64, pages: &[u8]) {
+fn encode_pages(
+    rt: &impl Print,
+    message: &[u8],
+    status: u64,
+    number: u64,
+    pages: &[u8],
+) -> io::Result<()> {
     let answer = judge_pages(message, status, number, pages);
     match answer {
-        Answer::Good => print_pages(message, status, number, pages),
-        Answer::Refused(why) => print_refused(why),
+        Answer::Good => print_pages(rt, message, status, number, pages),
+        Answer::Refused(why) => print_refused(rt, why),
     }
 }
 
@@ -88,24 +101,25 @@ fn start_of(pages: u8) -> usize
     HEADER_OCTETS + pages as usize
 }
 
-fn encode_input(input: &[u8]) {
+fn encode_input(rt: &impl Print, input: &[u8]) -> io::Result<()> {
     if input.len() < HEADER_OCTETS {
-        return print_refused(Refusal::Length);
+        return print_refused(rt, Refusal::Length);
     }
     let start = start_of(input[2]);
     if start == HEADER_OCTETS || input.len() < start {
-        return print_refused(Refusal::Length);
+        return print_refused(rt, Refusal::Length);
     }
     encode_pages(
+        rt,
         &input[start..],
         wide(input[0]),
         wide(input[1]),
         &input[HEADER_OCTETS..start],
-    );
+    )
 }
 
-fn main() {
+fn main(rt: HostRuntime) -> io::Result<()> {
     let mut input = [0u8; INPUT_OCTETS];
-    let n = io::read_full(STDIN_FILENO, &mut input);
-    encode_input(&input[..n]);
+    let n = stdio::read_full(&rt, &mut input)?;
+    encode_input(&rt, &input[..n])
 }

@@ -1,14 +1,14 @@
 // Runs a script of feeds through the collector and prints each answer: KEPT and READY with their numbers, a refusal with its number.
 #![tactic(auto)]
 
-ghost use Rattle.std.specs.Prelude.{◌≤◌};
+ghost use Rattle.std.specs.Prelude.{◌≤◌, IfOk};
 ghost use Rattle.collector.specs.Image.{Made};
 
 mod script;
 
 use collector::{Collector, Fed};
-use libc::STDOUT_FILENO;
 use script::{FEEDS, SCRIPT};
+use std::io;
 
 // The message that has this number and size: octet i is 7i + 31 times the size + the number, modulo 251.
 fn message_of(number: u64, size: u64) -> [u8; 1696] {
@@ -58,35 +58,36 @@ fn page_length(what: u64) -> usize
     56
 }
 
-fn print_answer(answer: Fed, same: bool) {
+fn print_answer(rt: &impl Print, answer: Fed, same: bool) -> io::Result<()> {
     match answer {
         Fed::Kept(n) => {
-            io::write_all(STDOUT_FILENO, b"KEPT ");
-            io::print_decimal(STDOUT_FILENO, n);
+            stdio::write_all(rt, b"KEPT ")?;
+            stdio::print_decimal(rt, n)?;
         }
         Fed::Ready(n) => {
-            io::write_all(STDOUT_FILENO, b"READY ");
-            io::print_decimal(STDOUT_FILENO, n);
+            stdio::write_all(rt, b"READY ")?;
+            stdio::print_decimal(rt, n)?;
             if same {
-                io::write_all(STDOUT_FILENO, b", as sent");
+                stdio::write_all(rt, b", as sent")?;
             }
         }
         Fed::Refused(r) => {
-            io::write_all(STDOUT_FILENO, b"REFUSED ");
-            io::print_decimal(STDOUT_FILENO, refusal::number(r));
+            stdio::write_all(rt, b"REFUSED ")?;
+            stdio::print_decimal(rt, refusal::number(r))?;
         }
     }
-    io::write_all(STDOUT_FILENO, b"\n");
+    stdio::write_all(rt, b"\n")
 }
 
-fn print_line(second: u64, answer: Fed, same: bool) {
-    io::print_decimal(STDOUT_FILENO, second);
-    io::write_all(STDOUT_FILENO, b": ");
-    print_answer(answer, same);
+fn print_line(rt: &impl Print, second: u64, answer: Fed, same: bool) -> io::Result<()> {
+    stdio::print_decimal(rt, second)?;
+    stdio::write_all(rt, b": ")?;
+    print_answer(rt, answer, same)
 }
 
 // One line of the script.
 fn feed_line(
+    rt: &impl Print,
     collector: Collector,
     second: u64,
     status: u64,
@@ -94,12 +95,12 @@ fn feed_line(
     size: u64,
     page: u64,
     what: u64,
-) -> Collector
+) -> io::Result<Collector>
     requires { Made collector }
-    ensures { Made result }
+    ensures { IfOk result (λ after. Made after) }
 {
     if size > 32 {
-        return collector;
+        return Ok(collector);
     }
     let end = size as usize * 53;
     let message = message_of(number, size);
@@ -110,32 +111,32 @@ fn feed_line(
         let mut small = [0u8; 1695];
         let fed = collector::feed(collector, second, &got, &mut small);
         let answer = fed.answer;
-        print_line(second, answer, false);
+        print_line(rt, second, answer, false)?;
         let after = fed.collector;
-        return after;
+        return Ok(after);
     }
     let mut out = [0u8; 1696];
     let length = page_length(what);
     let fed = collector::feed(collector, second, &got[..length], &mut out);
     let same = check::same(&out[..end], &message[..end]);
     let answer = fed.answer;
-    print_line(second, answer, same);
+    print_line(rt, second, answer, same)?;
     let after = fed.collector;
-    after
+    Ok(after)
 }
 
-fn print_start(timeout: u64) {
+fn print_start(rt: &impl Print, timeout: u64) -> io::Result<()> {
     let started = collector::start(timeout);
     let answer = started.answer;
-    io::write_all(STDOUT_FILENO, b"start ");
-    io::print_decimal(STDOUT_FILENO, timeout);
-    io::write_all(STDOUT_FILENO, b": ");
-    io::print_decimal(STDOUT_FILENO, pagecode::answer_number(answer));
-    io::write_all(STDOUT_FILENO, b"\n");
+    stdio::write_all(rt, b"start ")?;
+    stdio::print_decimal(rt, timeout)?;
+    stdio::write_all(rt, b": ")?;
+    stdio::print_decimal(rt, pagecode::answer_number(answer))?;
+    stdio::write_all(rt, b"\n")
 }
 
-fn main() {
-    print_start(60);
+fn main(rt: HostRuntime) -> io::Result<()> {
+    print_start(&rt, 60)?;
     let started = collector::start(60);
     let mut c = started.collector;
     let script = SCRIPT;
@@ -143,6 +144,7 @@ fn main() {
     while i < FEEDS {
         let at = i * 6;
         let next = feed_line(
+            &rt,
             c,
             script[at],
             script[at + 1],
@@ -150,11 +152,11 @@ fn main() {
             script[at + 3],
             script[at + 4],
             script[at + 5],
-        );
+        )?;
         c = next;
         i += 1;
     }
-    print_start(0);
-    print_start(600);
-    print_start(601);
+    print_start(&rt, 0)?;
+    print_start(&rt, 600)?;
+    print_start(&rt, 601)
 }

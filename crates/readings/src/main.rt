@@ -6,9 +6,9 @@ ghost use Rattle.std.specs.Prelude.{◌≤◌, ◌<◌};
 
 mod script;
 
-use libc::STDOUT_FILENO;
 use reader::{RECORDS_OCTETS, ReadAnswer};
 use script::{DATA, OCTETS, READINGS, SCRIPT};
+use std::io;
 
 // Where the message of two systems and all blocks begins.
 const FULL: usize = 1347;
@@ -48,27 +48,34 @@ fn digest(octets: &[u8]) -> u64 {
     d
 }
 
-fn print_reading(answer: ReadAnswer, buffer: &[u8]) {
+fn print_reading(rt: &impl Print, answer: ReadAnswer, buffer: &[u8]) -> io::Result<()> {
     match answer {
         ReadAnswer::Records(n) => {
-            io::print_decimal(STDOUT_FILENO, n);
-            io::write_all(STDOUT_FILENO, b" records");
+            stdio::print_decimal(rt, n)?;
+            stdio::write_all(rt, b" records")?;
         }
         ReadAnswer::Refused(r) => {
             let why = r.why;
-            io::write_all(STDOUT_FILENO, b"refused ");
-            io::print_decimal(STDOUT_FILENO, refusal::number(why));
-            io::write_all(STDOUT_FILENO, b" at ");
-            io::print_decimal(STDOUT_FILENO, r.place as u64);
+            stdio::write_all(rt, b"refused ")?;
+            stdio::print_decimal(rt, refusal::number(why))?;
+            stdio::write_all(rt, b" at ")?;
+            stdio::print_decimal(rt, r.place as u64)?;
         }
     }
-    io::write_all(STDOUT_FILENO, b", digest ");
-    io::print_decimal(STDOUT_FILENO, digest(buffer));
-    io::write_all(STDOUT_FILENO, b"\n");
+    stdio::write_all(rt, b", digest ")?;
+    stdio::print_decimal(rt, digest(buffer))?;
+    stdio::write_all(rt, b"\n")
 }
 
 // A message and a lent mask, each by where it begins in the data and how long it is, read into a buffer of octets 238.
-fn print_read(message: usize, octets: usize, id: u64, mask: usize, lent: usize) {
+fn print_read(
+    rt: &impl Print,
+    message: usize,
+    octets: usize,
+    id: u64,
+    mask: usize,
+    lent: usize,
+) -> io::Result<()> {
     let data = DATA;
     let masks = DATA;
     let message_start = start_of(message);
@@ -82,49 +89,50 @@ fn print_read(message: usize, octets: usize, id: u64, mask: usize, lent: usize) 
         &masks[mask_start..mask_end],
         &mut records,
     );
-    print_reading(answer, &records);
+    print_reading(rt, answer, &records)
 }
 
 // Reading i of the script.
-fn print_scripted(i: usize)
+fn print_scripted(rt: &impl Print, i: usize) -> io::Result<()>
     requires { i < 66 }
 {
     let script = SCRIPT;
     let at = i * 5;
-    io::print_decimal(STDOUT_FILENO, i as u64 + 1);
-    io::write_all(STDOUT_FILENO, b": ");
+    stdio::print_decimal(rt, i as u64 + 1)?;
+    stdio::write_all(rt, b": ")?;
     print_read(
+        rt,
         script[at],
         script[at + 1],
         script[at + 2] as u64,
         script[at + 3],
         script[at + 4],
-    );
+    )
 }
 
 // The message of two systems, cut to n octets.
-fn print_cut(n: usize) {
-    io::write_all(STDOUT_FILENO, b"the first ");
-    io::print_decimal(STDOUT_FILENO, n as u64);
-    io::write_all(STDOUT_FILENO, b" octets: ");
-    print_read(FULL, n, 0, 0, 0);
+fn print_cut(rt: &impl Print, n: usize) -> io::Result<()> {
+    stdio::write_all(rt, b"the first ")?;
+    stdio::print_decimal(rt, n as u64)?;
+    stdio::write_all(rt, b" octets: ")?;
+    print_read(rt, FULL, n, 0, 0, 0)
 }
 
-fn main() {
+fn main(rt: HostRuntime) -> io::Result<()> {
     let mut i: usize = 0;
     while i < READINGS {
-        print_scripted(i);
+        print_scripted(&rt, i)?;
         i += 1;
     }
     let mut n: usize = 0;
     while n <= 106 {
-        print_cut(n);
+        print_cut(&rt, n)?;
         n += 1;
     }
     let data = DATA;
     let mut small = [0xEE; 21807];
     let none = [0u8; 0];
     let answer = reader::read(&data[..53], 0, &none, &mut small);
-    io::write_all(STDOUT_FILENO, b"a buffer of 21,807 octets: ");
-    print_reading(answer, &small);
+    stdio::write_all(&rt, b"a buffer of 21,807 octets: ")?;
+    print_reading(&rt, answer, &small)
 }

@@ -5,7 +5,7 @@
 // LENGTH. If even its second is cut, there is nothing to feed: the line has - in the place of the second, and says LENGTH too.
 #![tactic(auto)]
 
-ghost use Rattle.std.specs.Prelude.{◌≡◌, ◌≤◌, length};
+ghost use Rattle.std.specs.Prelude.{◌≡◌, ◌≤◌, length, IfOk};
 ghost use Rattle.collector.specs.Image.{Made};
 ghost use Rattle.replay.specs.Drive.{second_of};
 
@@ -15,8 +15,8 @@ mod header;
 use answer::{MESSAGE_OCTETS, print_answer, print_refused};
 use collector::{Head, TIMEOUT};
 use header::wide;
-use libc::{STDIN_FILENO, STDOUT_FILENO};
 use refusal::Refusal;
+use std::io;
 
 const ENTRY_OCTETS: usize = 60;
 
@@ -32,55 +32,62 @@ fn second_of(octets: &[u8]) -> u64
 }
 
 // Feeds a page, and prints the answer.
-fn feed_page(head: Head, store: &mut [u8], second: u64, page: &[u8]) -> Head
+fn feed_page(
+    rt: &impl Print,
+    head: Head,
+    store: &mut [u8],
+    second: u64,
+    page: &[u8],
+) -> io::Result<Head>
     requires { Made (record { head = head; store = store.old }) }
-    ensures { Made (record { head = result; store = store.new }) }
+    ensures { IfOk result (λ after. Made (record { head = after; store = store.new })) }
 {
     let mut message = [0u8; MESSAGE_OCTETS];
     let fed = collector::feed_in_place(head, store, second, page, &mut message);
     let answer = fed.answer;
-    print_answer(answer, page, message);
+    print_answer(rt, answer, page, message)?;
     let after = fed.head;
-    after
+    Ok(after)
 }
 
 // The line of an entry, or of what is there of the last one.
-fn replay_entry(head: Head, store: &mut [u8], octets: &[u8]) -> Head
+fn replay_entry(rt: &impl Print, head: Head, store: &mut [u8], octets: &[u8]) -> io::Result<Head>
     requires { Made (record { head = head; store = store.old }) }
-    ensures { Made (record { head = result; store = store.new }) }
+    ensures { IfOk result (λ after. Made (record { head = after; store = store.new })) }
 {
     if octets.len() < SECOND_OCTETS {
-        io::write_all(STDOUT_FILENO, b"-");
-        print_refused(Refusal::Length);
-        return head;
+        stdio::write_all(rt, b"-")?;
+        print_refused(rt, Refusal::Length)?;
+        return Ok(head);
     }
     let second = second_of(octets);
-    io::print_decimal(STDOUT_FILENO, second);
-    feed_page(head, store, second, &octets[SECOND_OCTETS..])
+    stdio::print_decimal(rt, second)?;
+    feed_page(rt, head, store, second, &octets[SECOND_OCTETS..])
 }
 
 // Replays entry by entry. A proved loop has to end, and nothing says that the input does: so it counts its turns down, from a number that no run uses up.
-fn replay_entries(head: Head, store: &mut [u8])
+fn replay_entries(rt: &(impl Print + Input), head: Head, store: &mut [u8]) -> io::Result<()>
     requires { Made (record { head = head; store = store.old }) }
 {
     let mut held = head;
     let mut turns = u64::MAX;
     while turns > 0 {
         let mut octets = [0u8; ENTRY_OCTETS];
-        let n = io::read_full(STDIN_FILENO, &mut octets);
+        let n = stdio::read_full(rt, &mut octets)?;
         if n == 0 {
-            return;
+            return Ok(());
         }
-        let next = replay_entry(held, store, &octets[..n]);
+        let next = replay_entry(rt, held, store, &octets[..n])?;
         held = next;
         turns -= 1;
     }
+    Ok(())
 }
 
-fn main() {
+fn main(rt: HostRuntime) -> io::Result<()> {
     let started = collector::start(TIMEOUT);
     let collector = started.collector;
     let head = collector.head;
     let mut store = collector.store;
-    replay_entries(head, &mut store);
+    replay_entries(&rt, head, &mut store)
 }

@@ -6,10 +6,9 @@
 // how many windows its records have, and these: the records are what they show, one behind the other.
 #![tactic(auto)]
 
-ghost use Rattle.std.specs.Prelude.{◌≤◌, ◌<◌, length};
-ghost use Rattle.io.specs.Counts.{IsPrefixLen};
+ghost use Rattle.std.specs.Prelude.{◌≡◌, ◌≤◌, ◌<◌, length, take, IfOk};
 
-use libc::STDOUT_FILENO;
+use std::io;
 use writer::WriteAnswer;
 
 const INPUT_OCTETS: usize = 98304;
@@ -64,7 +63,7 @@ fn show(input: &[u8], place: usize, n: usize, list: &mut [u8], end: usize) -> us
 // What the windows from a place of the script on show, one behind the other; how many octets they are.
 fn gather(input: &[u8], at: usize, windows: usize, list: &mut [u8]) -> usize
     requires { (at ≤ 100000) × (windows ≤ 65535) }
-    ensures { IsPrefixLen result list.new }
+    ensures { (result ≤ length list.new) × (result ≡ length (take result list.new)) }
 {
     let mut end: usize = 0;
     let mut k: usize = 0;
@@ -88,28 +87,28 @@ fn digest(octets: &[u8]) -> usize {
     d
 }
 
-fn print_answer(answer: WriteAnswer, buffer: &[u8]) {
+fn print_answer(rt: &impl Print, answer: WriteAnswer, buffer: &[u8]) -> io::Result<()> {
     match answer {
         WriteAnswer::Size(k) => {
-            io::write_all(STDOUT_FILENO, b": pages ");
-            io::print_decimal(STDOUT_FILENO, k);
+            stdio::write_all(rt, b": pages ")?;
+            stdio::print_decimal(rt, k)?;
         }
         WriteAnswer::Refused(why) => {
-            io::write_all(STDOUT_FILENO, b": refused ");
-            io::print_decimal(STDOUT_FILENO, refusal::number(why));
+            stdio::write_all(rt, b": refused ")?;
+            stdio::print_decimal(rt, refusal::number(why))?;
         }
     }
-    io::write_all(STDOUT_FILENO, b", digest ");
-    io::print_decimal(STDOUT_FILENO, digest(buffer) as u64);
-    io::write_all(STDOUT_FILENO, b"\n");
+    stdio::write_all(rt, b", digest ")?;
+    stdio::print_decimal(rt, digest(buffer) as u64)?;
+    stdio::write_all(rt, b"\n")
 }
 
-fn print_name(input: &[u8], at: usize)
+fn print_name(rt: &impl Print, input: &[u8], at: usize) -> io::Result<()>
     requires { at ≤ 100000 }
 {
     let mut name = [0u8; 128];
     let octets = gather(input, at, 1, &mut name);
-    io::write_all(STDOUT_FILENO, &name[..octets]);
+    stdio::write_all(rt, &name[..octets])
 }
 
 // Writes with the first n octets of a buffer lent, or all of it if it has less.
@@ -121,11 +120,11 @@ fn write_to(records: &[u8], id: u64, mask: &[u8], buffer: &mut [u8], n: usize) -
 }
 
 // The writing at a place of the script, into a buffer of octets 165; how many windows its records have.
-fn print_writing(input: &[u8], at: usize) -> usize
+fn print_writing(rt: &impl Print, input: &[u8], at: usize) -> io::Result<usize>
     requires { at ≤ 98304 }
-    ensures { result ≤ 65535 }
+    ensures { IfOk result (λ windows. windows ≤ 65535) }
 {
-    print_name(input, at);
+    print_name(rt, input, at)?;
     let mut mask = [0u8; 256];
     let lent = gather(input, at + 4, 1, &mut mask);
     let id = number_at(input, at + 8) as u64;
@@ -135,21 +134,22 @@ fn print_writing(input: &[u8], at: usize) -> usize
     let n = gather(input, at + 14, windows, &mut records);
     let mut buffer = [0xA5; BUFFER_OCTETS];
     let answer = write_to(&records[..n], id, &mask[..lent], &mut buffer, room);
-    print_answer(answer, &buffer);
-    windows
+    print_answer(rt, answer, &buffer)?;
+    Ok(windows)
 }
 
-fn print_writings(input: &[u8])
+fn print_writings(rt: &impl Print, input: &[u8]) -> io::Result<()>
     requires { length input.now ≤ 98304 }
 {
     let mut at = number_at(input, 0);
     while at < input.len() {
-        at += 14 + 4 * print_writing(input, at);
+        at += 14 + 4 * print_writing(rt, input, at)?;
     }
+    Ok(())
 }
 
-fn main() {
+fn main(rt: HostRuntime) -> io::Result<()> {
     let mut input = [0u8; INPUT_OCTETS];
-    let n = io::read_full(libc::STDIN_FILENO, &mut input);
-    print_writings(&input[..n]);
+    let n = stdio::read_full(&rt, &mut input)?;
+    print_writings(&rt, &input[..n])
 }
