@@ -10,7 +10,7 @@ use lib.Dec.{eqb}
 use borrow.Author.Tests.{le-leb, eq-eqb}
 use Rattle.pagecode.specs.Encode.{are_pages}
 use Rattle.pagecode.specs.Field.{Octets}
-use Rattle.pagecode.specs.Page.{legal, content}
+use Rattle.pagecode.specs.Page.{legal}
 use Rattle.pagecode.specs.Solve.{contents_at, all_legal, is_in, different}
 use Rattle.pagecode.proofs.Promises.{content-length, content-octets, Solvable, solution-only}
 use Rattle.lists.specs.Lists.{Every, memb}

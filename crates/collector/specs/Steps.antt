@@ -1,6 +1,6 @@
 -- What the steps of the code do, on what the code holds: for private contracts alone. No public contract and no theorem of demand 3 cites it.
 -- Leans on the images.
-use Rattle.std.specs.Prelude.{ℕ, suc, ◌+◌, ◌<◌, Bool, true, false, ◌&&◌, cond, ◌≡◌, List, [], ◌∷◌, ◌++◌, map, eqb, length, get_or, set}
+use Rattle.std.specs.Prelude.{ℕ, suc, ◌<◌, Bool, true, false, ◌&&◌, cond, ◌≡◌, List, [], ◌∷◌, ◌++◌, map, eqb, length, get_or, set}
 use Rattle.collector.specs.declared.state.Key.{Key as KeyImage}
 use Rattle.collector.specs.declared.state.PlaceState.{PlaceState}
 use Rattle.collector.specs.declared.state.PlaceState.TheVariants.{Free, Open, Done}

@@ -1,6 +1,6 @@
 -- A collector that our own calls made from a fresh one: 01, How much each contract must say. The one definition that a contract may require.
 -- Leans on the collector.
-use Rattle.std.specs.Prelude.{ℕ, ◌≤◌, ◌<◌, ◌≡◌, true, List, [], ◌∷◌, length}
+use Rattle.std.specs.Prelude.{◌≤◌, ◌<◌, ◌≡◌, true, List, [], ◌∷◌, length}
 use Rattle.pagecode.specs.Field.{Octets}
 use Rattle.pagecode.specs.Page.{legal}
 use Rattle.lists.specs.Lists.{Every}

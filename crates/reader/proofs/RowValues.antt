@@ -1,6 +1,6 @@
 -- Values that stand: the number that is read where one does, and where a row's nth item and the fields of an item stand.
 -- Bits behind bits are split as lists are, and the items of a row are all of one width.
-use Prim.Native.Nat.{ℕ, zero, suc, ◌+◌, ◌*◌, ◌-◌, ◌^◌, ◌≤◌, ◌<◌}
+use Prim.Native.Nat.{ℕ, zero, suc, ◌+◌, ◌*◌, ◌^◌, ◌≤◌, ◌<◌}
 use native.Mathlib.Nat.{lt_of_lt_of_le, mul_comm, add_assoc}
 use native.Mathlib.Omega.{arith}
 use mathlib.Core.Bool.{Bool, false}

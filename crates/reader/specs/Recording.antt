@@ -8,13 +8,12 @@ use Rattle.reader.specs.declared.plan.Plan.{Plan}
 use Rattle.reader.specs.declared.record.Rows.{Rows}
 use Rattle.reader.specs.declared.emit.Cursor.{Cursor}
 use Rattle.reader.specs.declared.emit.CellCursor.{CellCursor}
-use Rattle.mt1.specs.Parse.{systems}
 use Rattle.mt1.specs.Message.{System, count, count_before, cells_of, Subset, Block, Message}
-use Rattle.mt1.specs.Mt1.{known, iod_bits, clocks, subset}
+use Rattle.mt1.specs.Mt1.{iod_bits}
 use Rattle.mt1.proofs.Spans.{Span}
 use Rattle.mt1.specs.Encode.{each, orbit_bits, phase_bits}
 use Rattle.mt1.specs.Valid.{SystemOk, Row, OrbitOk, PhaseOk}
-use Rattle.mt1.specs.Records.{at, multiplier_of, body, subset_of}
+use Rattle.mt1.specs.Records.{multiplier_of, body, subset_of}
 use Rattle.reader.specs.Steps.{system_plan, Stands, body_bits, part_bits}
 
 -- ---- the rows of the system at place p

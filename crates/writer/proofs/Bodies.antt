@@ -5,9 +5,9 @@ use native.Mathlib.Nat.{zero-add}
 use native.Mathlib.Omega.{arith}
 use mathlib.Core.Bool.{Bool, false}
 use mathlib.Core.List.{List, [], ◌∷◌, ◌++◌}
-use mathlib.Core.Path.{◌≡◌, sym, ap, ap₂, subst, ◌∙◌}
+use mathlib.Core.Path.{◌≡◌, sym, ap, subst, ◌∙◌}
 use lib.ListN.{length, get_or, take, drop, length-take, take-append-drop}
-use lib.Seq.{length-take-le, take-take, take_all}
+use lib.Seq.{length-take-le, take-take}
 use Rattle.lists.specs.Lists.{laid}
 use Rattle.bits.specs.Bits.{bits_of, octets_of}
 use Rattle.bits.proofs.Octets.{length-bits_of, bits_of-take, octets-of-bits}

@@ -1,6 +1,6 @@
 -- How many bits a part takes at most: of a record, and of a system's records.
 -- A part's fields have fixed widths, the IOD at most 10 bits, and a row has at most one bit for each signal; a system has so many records.
-use Prim.Native.Nat.{ℕ, zero, suc, ◌+◌, ◌*◌, ◌/◌, ◌≤◌}
+use Prim.Native.Nat.{ℕ, zero, suc, ◌*◌, ◌/◌, ◌≤◌}
 use native.Mathlib.Omega.{arith}
 use mathlib.Core.Bool.{Bool, true, false, ◌&&◌, cond}
 use mathlib.Core.List.{List, [], ◌∷◌, ◌++◌}

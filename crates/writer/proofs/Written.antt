@@ -16,7 +16,7 @@ use Rattle.refusal.specs.declared.Refusal.TheVariants.{Form, Long}
 use Rattle.writer.specs.declared.writing.WriteAnswer.TheVariants.{Size, Refused}
 use Rattle.mt1.specs.Parse.{got}
 use Rattle.mt1.specs.Message.{System, Mask, Message}
-use Rattle.mt1.specs.Mt1.{Lent, lent_for, used, ids, message}
+use Rattle.mt1.specs.Mt1.{Lent, lent_for, ids, message}
 use Rattle.mt1.specs.Encode.{encode}
 use Rattle.mt1.specs.Records.{part, records, systems_in, records_of}
 use Rattle.mt1.proofs.Counts.{length-records, room-for-records}

@@ -1,15 +1,9 @@
 -- After k turns the first k bits are laid at their place.
-use mathlib.Core.Bool.{false}
-use mathlib.Core.Path.{◌≡◌, refl, sym, ◌∙◌}
-use Prim.Native.Nat.{◌+◌, ◌/◌, ◌%◌, ◌^◌, ◌-◌, ◌≤◌}
-use native.Mathlib.Omega.{arith}
-use lib.ListN.{length, take, length-set}
-use borrow.Author.Rules.{rules}
+use mathlib.Core.Path.{◌≡◌}
+use Prim.Native.Nat.{◌-◌, ◌≤◌}
+use lib.ListN.{length, take}
 use Rattle.lists.specs.Lists.{laid}
-use Rattle.lists.proofs.Laid.{laid_none, laid_next, laid-all}
-use Rattle.bits.specs.Bits.{odd, bits, bits_of}
-use Rattle.bits.proofs.Values.{odd-mod, length-bits, bits_at}
-use Rattle.bits.proofs.Octets.{length-bits_of, set-bit}
+use Rattle.bits.specs.Bits.{bits, bits_of}
 use Rattle.bits.proofs.put_run.Given as goal
 
 abbrev pub invariant-loop-k : goal.invariant-loop-k

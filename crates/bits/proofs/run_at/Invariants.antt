@@ -1,13 +1,8 @@
 -- After the bits that are read, v is their number; a turn reads bits of one octet, so that the shift loses nothing and the sum fits.
-use mathlib.Core.Path.{◌≡◌, refl, sym, ap, ap₂, ◌∙◌, subst⁻¹}
-use Prim.Native.Nat.{ℕ, ◌+◌, ◌*◌, ◌%◌, ◌^◌, ◌-◌, ◌≤◌, ◌<◌}
-use native.Mathlib.Nat.{mod-lt}
-use native.Mathlib.Omega.{arith}
+use mathlib.Core.Path.{◌≡◌}
+use Prim.Native.Nat.{◌-◌, ◌≤◌}
 use lib.ListN.{take, drop}
-use lib.Pow.{pow_pos, shl_exact}
-use borrow.Author.Rules.{rules}
 use Rattle.bits.specs.Bits.{value, bits_of}
-use Rattle.bits.proofs.Runs.{run-lt, run-part, run_room}
 use Rattle.bits.proofs.run_at.Given as goal
 
 abbrev pub invariant-loop-k : goal.invariant-loop-k

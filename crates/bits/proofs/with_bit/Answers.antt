@@ -1,6 +1,5 @@
 -- Where the bit is what it is to be, nothing is done; where it is not, its weight is added or taken away.
 use native.Mathlib.Omega.{arith}
-use borrow.Author.Rules.{rules}
 use Rattle.bits.proofs.Setting.{bit-same, bit_up, bit-down}
 use Rattle.bits.proofs.with_bit.Goals as goal
 

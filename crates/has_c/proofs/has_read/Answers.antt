@@ -1,5 +1,4 @@
 -- The value is below 2^32, and the code is that of the answer.
-use borrow.Author.Rules.{rules}
 use Rattle.has_c.proofs.Values.{read-few}
 use Rattle.has_c.proofs.has_read.Goals as goal
 

@@ -1,7 +1,6 @@
 -- The code is that of the answer.
 use Prim.Native.Nat.{◌<◌}
 use mathlib.Core.Path.{sym, subst}
-use borrow.Author.Rules.{rules}
 use Rattle.mt1.specs.declared.answer.TimeAnswer.{TimeAnswer}
 use Rattle.has_c.specs.Codes.{Is, time_code}
 use Rattle.has_c.proofs.Values.{time-few}

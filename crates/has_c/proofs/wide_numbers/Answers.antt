@@ -1,11 +1,8 @@
 -- After i turns the first i numbers are laid over the zeros.
-use mathlib.Core.Path.{◌≡◌, refl, sym, ap, ◌∙◌}
-use Prim.Native.Nat.{◌-◌, ◌≤◌}
+use mathlib.Core.Path.{refl, sym, ap, ◌∙◌}
 use native.Mathlib.Nat.{zero-add}
-use native.Mathlib.Omega.{arith}
 use lib.ListN.{length, take, replicate}
 use borrow.Author.Rules.{rules}
-use Rattle.lists.specs.Lists.{laid}
 use Rattle.lists.proofs.Laid.{laid-front, laid_none, laid_next, laid-all}
 use Rattle.has_c.proofs.wide_numbers.Goals as goal
 

@@ -1,12 +1,8 @@
 -- After i turns the first i numbers are laid over the zeros.
-use mathlib.Core.Path.{◌≡◌, refl, sym, ap, ◌∙◌}
+use mathlib.Core.Path.{◌≡◌}
 use Prim.Native.Nat.{◌-◌, ◌≤◌}
-use native.Mathlib.Nat.{zero-add}
-use native.Mathlib.Omega.{arith}
-use lib.ListN.{length, take, replicate}
-use borrow.Author.Rules.{rules}
+use lib.ListN.{length, take}
 use Rattle.lists.specs.Lists.{laid}
-use Rattle.lists.proofs.Laid.{laid-front, laid_none, laid_next, laid-all}
 use Rattle.has_c.proofs.wide_numbers.Given as goal
 
 abbrev pub invariant-loop-i : goal.invariant-loop-i

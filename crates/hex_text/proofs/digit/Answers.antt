@@ -1,5 +1,4 @@
 -- The two branches are the two cases of the digit.
-use borrow.Author.Rules.{rules}
 use borrow.Author.Tests.{lt-ltb, le-ltb}
 use Rattle.hex_text.specs.Hex.{digit_of}
 use Rattle.hex_text.proofs.digit.Goals as goal

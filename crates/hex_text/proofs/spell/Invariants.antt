@@ -1,12 +1,9 @@
 -- After i turns the digits of the first i octets stand at the start of the text. The measure is how many octets are left.
 use Prim.Native.Nat.{◌-◌, ◌*◌, ◌≤◌}
-use mathlib.Core.Path.{◌≡◌, refl}
-use native.Mathlib.Omega.{arith}
-use lib.ListN.{length, take, length-set}
-use borrow.Author.Rules.{rules}
+use mathlib.Core.Path.{◌≡◌}
+use lib.ListN.{length, take}
 use Rattle.lists.specs.Lists.{laid}
 use Rattle.hex_text.specs.Hex.{hex_of}
-use Rattle.hex_text.proofs.Spelling.{start, turn, full, all}
 use Rattle.hex_text.proofs.spell.Given as goal
 
 abbrev pub invariant-loop-i : goal.invariant-loop-i

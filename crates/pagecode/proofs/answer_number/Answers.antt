@@ -1,7 +1,6 @@
 -- Each arm answers the number of its case.
 use mathlib.Core.Path.{sym, ap, ◌∙◌}
 use Rattle.pagecode.specs.Answer.{answer_number}
-use borrow.Author.Rules.{rules}
 use Rattle.pagecode.proofs.answer_number.Goals as goal
 
 pub returns-in-Refused : goal.returns-in-Refused

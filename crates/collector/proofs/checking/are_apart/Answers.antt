@@ -1,7 +1,7 @@
 -- Whatever was passed has a key that no place behind it has, so the answer is that of what is left.
 use mathlib.Core.Bool.{not, ◌&&◌}
-use mathlib.Core.Path.{◌≡◌, refl, sym, ap, ◌∙◌}
-use Prim.Native.Nat.{◌+◌, ◌-◌, ◌≤◌}
+use mathlib.Core.Path.{refl, sym, ap, ◌∙◌}
+use Prim.Native.Nat.{◌+◌}
 use native.Mathlib.Omega.{arith}
 use lib.ListN.{drop, drop_of_length-le}
 use borrow.Author.Rules.{rules}

@@ -1,13 +1,8 @@
 -- Whatever was passed has a key that no place behind it has, so the answer is that of what is left.
-use mathlib.Core.Bool.{not, ◌&&◌}
-use mathlib.Core.Path.{◌≡◌, refl, sym, ap, ◌∙◌}
-use Prim.Native.Nat.{◌+◌, ◌-◌, ◌≤◌}
-use native.Mathlib.Omega.{arith}
-use lib.ListN.{drop, drop_of_length-le}
-use borrow.Author.Rules.{rules}
+use mathlib.Core.Path.{◌≡◌}
+use Prim.Native.Nat.{◌-◌, ◌≤◌}
+use lib.ListN.{drop}
 use Rattle.collector.specs.Checks.{are_apart}
-use Rattle.collector.proofs.Meeting.{beyond}
-use Rattle.collector.proofs.Search.{front}
 use Rattle.collector.proofs.checking.are_apart.Given as goal
 
 abbrev pub invariant-loop-i : goal.invariant-loop-i

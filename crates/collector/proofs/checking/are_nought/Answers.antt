@@ -1,9 +1,9 @@
 -- The largest of what was passed is 0 if all of it is; with what is left it tells of the whole.
 use mathlib.Core.Bool.{Bool, true, false, ◌&&◌}
 use mathlib.Core.Path.{◌≡◌, refl, sym, ap, ◌∙◌}
-use Prim.Native.Nat.{◌+◌, ◌-◌}
+use Prim.Native.Nat.{◌+◌}
 use lib.Dec.{eqb}
-use lib.ListN.{length, get_or, drop, drop_of_length-le}
+use lib.ListN.{get_or, drop, drop_of_length-le}
 use borrow.Author.Rules.{rules}
 use Rattle.collector.specs.Checks.{noughts}
 use Rattle.collector.proofs.Search.{front}

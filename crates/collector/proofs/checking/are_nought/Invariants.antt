@@ -1,12 +1,10 @@
 -- The largest of what was passed is 0 if all of it is; with what is left it tells of the whole.
-use mathlib.Core.Bool.{Bool, true, false, ◌&&◌}
-use mathlib.Core.Path.{◌≡◌, refl, sym, ap, ◌∙◌}
-use Prim.Native.Nat.{◌+◌, ◌-◌}
+use mathlib.Core.Bool.{◌&&◌}
+use mathlib.Core.Path.{◌≡◌}
+use Prim.Native.Nat.{◌-◌}
 use lib.Dec.{eqb}
-use lib.ListN.{length, get_or, drop, drop_of_length-le}
-use borrow.Author.Rules.{rules}
+use lib.ListN.{length, drop}
 use Rattle.collector.specs.Checks.{noughts}
-use Rattle.collector.proofs.Search.{front}
 use Rattle.collector.proofs.checking.are_nought.Given as goal
 
 abbrev pub invariant-loop-i : goal.invariant-loop-i

@@ -1,13 +1,12 @@
 -- Whatever was passed is as a feed leaves it, so the answer is that of what is left.
-use mathlib.Core.Bool.{Bool, true, false, ◌&&◌}
+use mathlib.Core.Bool.{Bool, true, ◌&&◌}
 use mathlib.Core.List.{List}
 use mathlib.Core.Path.{◌≡◌, sym, ap, ◌∙◌}
 use Prim.Native.Nat.{ℕ, ◌+◌, ◌*◌, ◌-◌, ◌≤◌, ◌<◌}
 use native.Mathlib.Omega.{arith}
 use lib.ListN.{length, get_or, take, drop, drop_of_length-le}
 use lib.Seq.{drop-drop}
-use borrow.Author.Rules.{rules}
-use borrow.Author.Tests.{eq-eqb, not-true, not-false}
+use borrow.Author.Tests.{eq-eqb}
 use Rattle.collector.specs.declared.state.Place.{Place}
 use Rattle.collector.specs.Checks.{is_place, are_places, are_eight}
 use Rattle.collector.proofs.Meeting.{beyond}

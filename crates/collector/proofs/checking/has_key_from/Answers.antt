@@ -1,10 +1,9 @@
 -- Whatever was passed has another key, so the answer is that of what is left.
 use mathlib.Core.Bool.{◌||◌}
-use mathlib.Core.Path.{◌≡◌, refl, sym, ap, ◌∙◌}
-use Prim.Native.Nat.{◌+◌, ◌-◌}
+use mathlib.Core.Path.{refl, sym, ap, ◌∙◌}
+use Prim.Native.Nat.{◌+◌}
 use native.Mathlib.Omega.{arith}
 use lib.ListN.{drop, drop_of_length-le}
-use borrow.Author.Rules.{rules}
 use Rattle.collector.specs.Checks.{any_has}
 use Rattle.collector.proofs.Meeting.{beyond}
 use Rattle.collector.proofs.Search.{front}

@@ -1,7 +1,6 @@
 -- Each arm answers for its case.
 use mathlib.Core.Path.{sym, ap, ◌∙◌}
 use lib.ListN.{drop}
-use borrow.Author.Rules.{rules}
 use Rattle.collector.specs.declared.state.PlaceState.{PlaceState}
 use Rattle.collector.specs.Checks.{is_again}
 use Rattle.collector.proofs.checking.is_again.Goals as goal

@@ -1,7 +1,5 @@
 -- The key or the second fails, or the zeros decide.
 use mathlib.Core.Path.{sym, ◌∙◌}
-use borrow.Author.Rules.{rules}
-use borrow.Author.Tests.{not-true, not-false}
 use Rattle.collector.specs.Checks.{is_done}
 use Rattle.collector.proofs.checking.is_done.Goals as goal
 

@@ -1,7 +1,5 @@
 -- The key fails, or the second decides.
 use mathlib.Core.Path.{sym, ◌∙◌}
-use borrow.Author.Rules.{rules}
-use borrow.Author.Tests.{not-true, not-false}
 use Rattle.collector.specs.Checks.{is_kept}
 use Rattle.collector.proofs.checking.is_kept.Goals as goal
 

@@ -1,7 +1,6 @@
 -- The first test that fails decides, or the places and the store do; the tests together decide whether our calls made the collector.
 use mathlib.Core.Path.{sym, ◌∙◌}
-use borrow.Author.Rules.{rules}
-use borrow.Author.Tests.{eq-eqb, ne_eqb, le-leb, lt-leb, not-true, not-false}
+use borrow.Author.Tests.{eq-eqb, ne_eqb, le-leb, lt-leb}
 use lib.ListN.{length}
 use Rattle.collector.specs.Checks.{is_made}
 use Rattle.collector.proofs.Checked.{refuted, decided}

@@ -1,8 +1,7 @@
 -- The first test that fails decides, or the zeros do. A key that passes has a size of 32 at most, so there is room for the numbers.
 use mathlib.Core.Path.{sym, ◌∙◌}
 use native.Mathlib.Omega.{arith}
-use borrow.Author.Rules.{rules}
-use borrow.Author.Tests.{le-leb, lt-leb, lt-ltb, le-ltb, not-true, not-false}
+use borrow.Author.Tests.{le-leb, lt-leb, lt-ltb, le-ltb}
 use Rattle.collector.specs.Checks.{is_open}
 use Rattle.collector.proofs.Checks.{kept-key}
 use Rattle.collector.proofs.checking.is_open.Goals as goal

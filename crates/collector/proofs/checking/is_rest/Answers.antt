@@ -1,7 +1,5 @@
 -- The numbers fail, or the octets decide.
 use mathlib.Core.Path.{sym, ◌∙◌}
-use borrow.Author.Rules.{rules}
-use borrow.Author.Tests.{not-true, not-false}
 use Rattle.collector.specs.Checks.{is_rest}
 use Rattle.collector.proofs.checking.is_rest.Goals as goal
 

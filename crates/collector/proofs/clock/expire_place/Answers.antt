@@ -1,7 +1,6 @@
 -- A place that is not over stays as it is; one that is over becomes free, and its part of the store zeros.
 use mathlib.Core.Path.{sym, ◌∙◌}
 use borrow.Author.Rules.{rules}
-use borrow.Author.Tests.{not-true, not-false}
 use Rattle.collector.proofs.Expiry.{held-length, place_kept, place-freed}
 use Rattle.collector.proofs.clock.expire_place.Goals as goal
 

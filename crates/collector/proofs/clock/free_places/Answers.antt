@@ -1,7 +1,6 @@
 -- The free place, eight times.
 use mathlib.Core.Path.{ap}
 use lib.ListN.{replicate}
-use borrow.Author.Rules.{rules}
 use Rattle.collector.specs.declared.state.Place.{Place}
 use Rattle.collector.proofs.clock.free_places.Goals as goal
 

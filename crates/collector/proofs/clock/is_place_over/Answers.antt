@@ -1,6 +1,5 @@
 -- Each arm answers for its case.
 use mathlib.Core.Path.{sym, ap, ◌∙◌}
-use borrow.Author.Rules.{rules}
 use Rattle.collector.specs.Steps.{state_over}
 use Rattle.collector.proofs.clock.is_place_over.Goals as goal
 

@@ -1,12 +1,11 @@
 -- After i turns the first i places are expired, whatever places are held.
-use mathlib.Core.Path.{sym, ◌∙◌, subst}
+use mathlib.Core.Path.{subst}
 use mathlib.Core.List.{List}
-use Prim.Native.Nat.{◌-◌, ◌≤◌}
 use native.Mathlib.Omega.{arith}
 use borrow.Author.Rules.{rules}
 use Rattle.collector.specs.Place.{Place}
 use Rattle.collector.specs.Steps.{Hold}
-use Rattle.collector.proofs.Expiry.{held-length, expire_first, first_next, first-all}
+use Rattle.collector.proofs.Expiry.{expire_first, first_next, first-all}
 use Rattle.collector.proofs.clock.tick_places.Goals as goal
 
 pub loop-i-init : goal.loop-i-init

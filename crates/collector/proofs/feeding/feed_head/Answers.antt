@@ -1,7 +1,6 @@
 -- Each early return is the first check that fails, and leaves everything. Behind the clock the head and the store hold the collector ticked, so the rest is `receive`.
 use mathlib.Core.Path.{sym, subst}
 use native.Mathlib.Omega.{arith}
-use borrow.Author.Rules.{rules}
 use Rattle.refusal.specs.declared.Refusal.TheVariants.{Length, Out, Second, Clock}
 use Rattle.collector.specs.Feed.{Step, tick}
 use Rattle.collector.specs.Steps.{Does}

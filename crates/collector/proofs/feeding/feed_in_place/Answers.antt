@@ -1,5 +1,4 @@
 -- The head and the store hold the collector, so the step of `feed_head` is the step; a feed of octets keeps a collector valid.
-use borrow.Author.Rules.{rules}
 use lib.ListN.{length}
 use Rattle.collector.proofs.Steady.{state-made, fed}
 use Rattle.collector.proofs.feeding.feed_in_place.Goals as goal

@@ -6,7 +6,6 @@ use mathlib.Core.Path.{sym, ap, ◌∙◌}
 use Prim.Native.Nat.{◌<◌}
 use native.Mathlib.Omega.{arith}
 use lib.ListN.{get_or}
-use borrow.Author.Rules.{rules}
 use Rattle.refusal.specs.declared.Refusal.TheVariants.{Done, Repeat, Conflict}
 use Rattle.collector.specs.Place.{free}
 use Rattle.collector.specs.Feed.{key_of, held_of}

@@ -1,7 +1,6 @@
 -- What is judged decides the case: a refusal, STOP, whose store is all zeros, or the page to hold.
 use mathlib.Core.Path.{refl, sym, ap, ◌∙◌, subst}
 use Prim.Native.Nat.{ℕ}
-use borrow.Author.Rules.{rules}
 use lib.ListN.{replicate}
 use Rattle.refusal.specs.declared.Refusal.TheVariants.{Stop}
 use Rattle.collector.specs.Place.{free}

@@ -1,13 +1,8 @@
 -- Before i no place has the key. The measure is how many places are left.
-use Prim.Native.Nat.{◌≤◌, ◌-◌}
-use mathlib.Core.Bool.{Bool}
 use mathlib.Core.Path.{sym, ◌∙◌}
 use native.Mathlib.Omega.{arith}
 use borrow.Author.Rules.{rules}
-use Rattle.collector.specs.declared.state.Key.{Key}
-use Rattle.collector.specs.declared.state.Place.{Place}
-use Rattle.collector.specs.Steps.{state_has_key}
-use Rattle.collector.proofs.Search.{Passed, passed_none, passed-next, passed-all, found}
+use Rattle.collector.proofs.Search.{passed_none, passed-next, passed-all, found}
 use Rattle.collector.proofs.finding.find_place.Goals as goal
 use Rattle.collector.proofs.finding.find_place.Invariants.{test}
 

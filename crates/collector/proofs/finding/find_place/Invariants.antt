@@ -1,13 +1,10 @@
 -- Before i no place has the key. The measure is how many places are left.
 use Prim.Native.Nat.{◌≤◌, ◌-◌}
 use mathlib.Core.Bool.{Bool}
-use mathlib.Core.Path.{sym, ◌∙◌}
-use native.Mathlib.Omega.{arith}
-use borrow.Author.Rules.{rules}
 use Rattle.collector.specs.declared.state.Key.{Key}
 use Rattle.collector.specs.declared.state.Place.{Place}
 use Rattle.collector.specs.Steps.{state_has_key}
-use Rattle.collector.proofs.Search.{Passed, passed_none, passed-next, passed-all, found}
+use Rattle.collector.proofs.Search.{Passed}
 use Rattle.collector.proofs.finding.find_place.Given as goal
 
 abbrev pub test : Key → Place → Bool

@@ -1,6 +1,5 @@
 -- Each arm answers for its case.
 use mathlib.Core.Path.{sym, ap, ◌∙◌}
-use borrow.Author.Rules.{rules}
 use Rattle.collector.specs.Steps.{state_has_key}
 use Rattle.collector.proofs.finding.has_key.Goals as goal
 

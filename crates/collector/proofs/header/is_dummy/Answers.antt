@@ -1,7 +1,6 @@
 -- The first 24 bits are AF3BC3 where the three octets are AF, 3B and C3, and only there.
 use mathlib.Core.Path.{sym}
 use native.Mathlib.Omega.{arith}
-use borrow.Author.Rules.{rules}
 use borrow.Author.Tests.{ne_eqb}
 use lib.ListN.{get_or}
 use Rattle.pagecode.specs.Field.{Octets}

@@ -1,7 +1,5 @@
 -- Each return is the first check that fails, or the key and the number: a law of each check, on what the callees ensure.
 use mathlib.Core.Path.{sym, ◌∙◌}
-use borrow.Author.Rules.{rules}
-use borrow.Author.Tests.{not-true, not-false}
 use Rattle.collector.specs.Feed.{judge}
 use Rattle.collector.proofs.Headers.{judged-stop, judged-status, judged-kind, judged-number, judged-good}
 use Rattle.collector.proofs.header.judge_page.Goals as goal

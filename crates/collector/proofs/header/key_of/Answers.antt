@@ -1,6 +1,5 @@
 -- Each field of the key is that of the header.
 use native.Mathlib.Omega.{arith}
-use borrow.Author.Rules.{rules}
 use Rattle.pagecode.specs.Field.{Octets}
 use Rattle.collector.proofs.Headers.{status-is, number_is, size_is}
 use Rattle.collector.proofs.header.key_of.Goals as goal

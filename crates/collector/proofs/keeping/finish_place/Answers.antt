@@ -3,7 +3,6 @@ use mathlib.Core.Path.{refl, sym}
 use Prim.Native.Nat.{◌*◌}
 use native.Mathlib.Omega.{arith}
 use lib.Seq.{length-take-le}
-use borrow.Author.Rules.{rules}
 use Rattle.collector.proofs.Pages.{finishing-few, finishing-length, finished}
 use Rattle.collector.proofs.keeping.finish_place.Goals as goal
 

@@ -1,6 +1,5 @@
 -- Eight free places, and zeros.
 use mathlib.Core.Path.{refl}
-use borrow.Author.Rules.{rules}
 use Rattle.collector.proofs.Starts.{fresh-image}
 use Rattle.collector.proofs.starting.fresh_collector.Goals as goal
 

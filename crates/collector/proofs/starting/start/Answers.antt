@@ -1,6 +1,5 @@
 -- The time-out is within range, or the collector is of 1 s.
 use mathlib.Core.Path.{sym, ◌∙◌}
-use borrow.Author.Rules.{rules}
 use Rattle.collector.proofs.Starts.{starts, starts-not}
 use Rattle.collector.proofs.starting.start.Goals as goal
 

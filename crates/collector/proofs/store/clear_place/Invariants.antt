@@ -1,10 +1,8 @@
 -- After j turns the first j octets of the place are zeros.
-use mathlib.Core.Path.{◌≡◌, refl, sym, ◌∙◌}
+use mathlib.Core.Path.{◌≡◌}
 use Prim.Native.Nat.{◌*◌, ◌-◌, ◌≤◌}
-use lib.ListN.{length, take, replicate, get_or-replicate, length-set}
-use borrow.Author.Rules.{rules}
+use lib.ListN.{length, take, replicate}
 use Rattle.lists.specs.Lists.{laid}
-use Rattle.lists.proofs.Laid.{laid_none, laid_next, laid-all}
 use Rattle.collector.proofs.store.clear_place.Given as goal
 
 abbrev pub invariant-loop-j : goal.invariant-loop-j

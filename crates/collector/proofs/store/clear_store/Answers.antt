@@ -1,11 +1,10 @@
 -- After j turns the first j octets of the store are zeros.
-use mathlib.Core.Path.{◌≡◌, refl, sym, ◌∙◌}
-use Prim.Native.Nat.{ℕ, ◌-◌, ◌≤◌}
+use mathlib.Core.Path.{refl, sym, ◌∙◌}
+use Prim.Native.Nat.{ℕ}
 use native.Mathlib.Nat.{zero-add}
 use native.Mathlib.Omega.{arith}
-use lib.ListN.{length, take, replicate, get_or-replicate, length-replicate, length-set}
+use lib.ListN.{length, replicate, get_or-replicate, length-replicate, length-set}
 use borrow.Author.Rules.{rules}
-use Rattle.lists.specs.Lists.{laid}
 use Rattle.lists.proofs.Laid.{laid_none, laid_next, laid-all, laid-over}
 use Rattle.collector.proofs.store.clear_store.Goals as goal
 

@@ -1,12 +1,8 @@
 -- After j turns the first j octets of the store are zeros.
-use mathlib.Core.Path.{◌≡◌, refl, sym, ◌∙◌}
-use Prim.Native.Nat.{ℕ, ◌-◌, ◌≤◌}
-use native.Mathlib.Nat.{zero-add}
-use native.Mathlib.Omega.{arith}
-use lib.ListN.{length, take, replicate, get_or-replicate, length-replicate, length-set}
-use borrow.Author.Rules.{rules}
+use mathlib.Core.Path.{◌≡◌}
+use Prim.Native.Nat.{◌-◌, ◌≤◌}
+use lib.ListN.{length, take, replicate}
 use Rattle.lists.specs.Lists.{laid}
-use Rattle.lists.proofs.Laid.{laid_none, laid_next, laid-all, laid-over}
 use Rattle.collector.proofs.store.clear_store.Given as goal
 
 abbrev pub invariant-loop-j : goal.invariant-loop-j

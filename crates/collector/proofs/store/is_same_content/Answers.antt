@@ -3,9 +3,9 @@
 use mathlib.Core.Bool.{true, false}
 use mathlib.Core.Path.{◌≡◌, refl, sym, ◌∙◌}
 use mathlib.Core.List.{List}
-use Prim.Native.Nat.{ℕ, ◌+◌, ◌-◌, ◌≤◌, ◌<◌}
+use Prim.Native.Nat.{ℕ, ◌+◌, ◌≤◌, ◌<◌}
 use native.Mathlib.Omega.{arith}
-use lib.ListN.{length, get_or, take, drop, length-drop}
+use lib.ListN.{length, get_or, drop, length-drop}
 use lib.Seq.{get_or-take, get_or-drop, length-take-le}
 use borrow.Author.Rules.{rules}
 use Rattle.collector.specs.Feed.{same_octets}

@@ -1,15 +1,10 @@
 -- Whatever was passed is equal, so the answer is that of what is left.
 -- Both contents have 53 octets.
-use mathlib.Core.Bool.{true, false}
-use mathlib.Core.Path.{◌≡◌, refl, sym, ◌∙◌}
+use mathlib.Core.Path.{◌≡◌}
 use mathlib.Core.List.{List}
-use Prim.Native.Nat.{ℕ, ◌+◌, ◌-◌, ◌≤◌, ◌<◌}
-use native.Mathlib.Omega.{arith}
-use lib.ListN.{length, get_or, take, drop, length-drop}
-use lib.Seq.{get_or-take, get_or-drop, length-take-le}
-use borrow.Author.Rules.{rules}
+use Prim.Native.Nat.{ℕ, ◌-◌, ◌≤◌}
+use lib.ListN.{take, drop}
 use Rattle.collector.specs.Feed.{same_octets}
-use Rattle.collector.proofs.Search.{same-differ, same_next, same_none}
 use Rattle.collector.proofs.store.is_same_content.Given as goal
 
 abbrev pub held : List ℕ → ℕ → List ℕ

@@ -1,13 +1,12 @@
 -- After j turns the first j octets of the place are laid over the zeros.
 use mathlib.Core.Path.{◌≡◌, sym, ◌∙◌}
-use Prim.Native.Nat.{ℕ, ◌+◌, ◌*◌, ◌-◌, ◌≤◌, ◌<◌}
+use Prim.Native.Nat.{ℕ, ◌+◌, ◌*◌, ◌<◌}
 use mathlib.Core.List.{List}
 use native.Mathlib.Nat.{zero-add}
 use native.Mathlib.Omega.{arith}
-use lib.ListN.{length, get_or, take, drop, replicate, length-drop}
+use lib.ListN.{length, get_or, drop, replicate, length-drop}
 use lib.Seq.{get_or-take, get_or-drop, length-take-le}
 use borrow.Author.Rules.{rules}
-use Rattle.lists.specs.Lists.{laid}
 use Rattle.lists.proofs.Laid.{laid_none, laid_next, laid-all, laid-over}
 use Rattle.collector.proofs.store.place_octets.Goals as goal
 use Rattle.collector.proofs.store.place_octets.Invariants.{part}

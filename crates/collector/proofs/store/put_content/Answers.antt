@@ -1,10 +1,8 @@
 -- After j turns the first j octets of the page's content are laid over the store.
-use mathlib.Core.Path.{◌≡◌, refl, sym, ◌∙◌}
-use Prim.Native.Nat.{◌-◌, ◌≤◌}
-use lib.ListN.{length, drop, take, length-drop, length-set}
+use mathlib.Core.Path.{refl, sym, ◌∙◌}
+use lib.ListN.{drop, length-drop, length-set}
 use lib.Seq.{get_or-drop}
 use borrow.Author.Rules.{rules}
-use Rattle.lists.specs.Lists.{laid}
 use Rattle.lists.proofs.Laid.{laid_none, laid_next, laid-all}
 use Rattle.collector.proofs.store.put_content.Goals as goal
 

@@ -1,10 +1,8 @@
 -- After i turns the first i numbers are laid over the zeros.
-use mathlib.Core.Path.{◌≡◌, refl, sym, ◌∙◌}
-use Prim.Native.Nat.{◌-◌, ◌≤◌}
+use mathlib.Core.Path.{refl, sym, ◌∙◌}
 use native.Mathlib.Nat.{zero-add}
-use lib.ListN.{take, replicate}
+use lib.ListN.{replicate}
 use borrow.Author.Rules.{rules}
-use Rattle.lists.specs.Lists.{laid}
 use Rattle.lists.proofs.Laid.{laid_none, laid_next, laid-all, laid-over}
 use Rattle.collector.proofs.store.wide_numbers.Goals as goal
 

@@ -1,11 +1,8 @@
 -- After i turns the first i numbers are laid over the zeros.
-use mathlib.Core.Path.{◌≡◌, refl, sym, ◌∙◌}
+use mathlib.Core.Path.{◌≡◌}
 use Prim.Native.Nat.{◌-◌, ◌≤◌}
-use native.Mathlib.Nat.{zero-add}
-use lib.ListN.{take, replicate}
-use borrow.Author.Rules.{rules}
+use lib.ListN.{take}
 use Rattle.lists.specs.Lists.{laid}
-use Rattle.lists.proofs.Laid.{laid_none, laid_next, laid-all, laid-over}
 use Rattle.collector.proofs.store.wide_numbers.Given as goal
 
 abbrev pub invariant-loop-i : goal.invariant-loop-i

@@ -1,7 +1,6 @@
 -- The answer's case tells what is logged: two octets, and behind a READY the front of the buffer.
 use mathlib.Core.Path.{refl, sym}
 use native.Mathlib.Omega.{arith}
-use borrow.Author.Rules.{rules}
 use Rattle.refusal.proofs.Numbers.{at_most}
 use Rattle.drive.proofs.Pieces.{kept-fits, ready-fits, message-fits, refused-fits, lays-kept, lays-ready, lays-refused}
 use Rattle.drive.proofs.logging.log_answer.Goals as goal

@@ -1,9 +1,7 @@
 -- After j turns the first j octets are laid over the log.
-use mathlib.Core.Path.{◌≡◌, refl, ◌∙◌}
-use Prim.Native.Nat.{◌-◌, ◌≤◌}
-use lib.ListN.{length, take, length-set}
+use mathlib.Core.Path.{refl, ◌∙◌}
+use lib.ListN.{length-set}
 use borrow.Author.Rules.{rules}
-use Rattle.lists.specs.Lists.{laid}
 use Rattle.lists.proofs.Laid.{laid_none, laid_next, laid-all}
 use Rattle.drive.proofs.logging.log_octets.Goals as goal
 

@@ -1,6 +1,5 @@
 -- Two octets set one behind the other are the two laid.
 use native.Mathlib.Omega.{arith}
-use borrow.Author.Rules.{rules}
 use lib.ListN.{length-set}
 use Rattle.drive.proofs.Appending.{pair-appends}
 use Rattle.drive.proofs.logging.log_pair.Goals as goal

@@ -1,7 +1,5 @@
 -- The checks are those of the answer, in their order; a start that is good leaves a fresh collector, whose log the entries make.
-use borrow.Author.Tests.{not-true, not-false}
 use mathlib.Core.Path.{sym, ◌∙◌}
-use borrow.Author.Rules.{rules}
 use Rattle.drive.proofs.Checks.{started, not-started, held-timeout, held-fresh, no-entries, no_room, no_start, goes}
 use Rattle.drive.proofs.replaying.replay.Goals as goal
 

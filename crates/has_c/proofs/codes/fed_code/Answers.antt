@@ -2,7 +2,6 @@
 use Prim.Native.Nat.{◌<◌}
 use native.Mathlib.Omega.{arith}
 use mathlib.Core.Path.{sym, subst}
-use borrow.Author.Rules.{rules}
 use Rattle.collector.specs.declared.state.Fed.{Fed}
 use Rattle.has_c.specs.Codes.{Is, fed_code}
 use Rattle.has_c.proofs.codes.fed_code.Goals as goal

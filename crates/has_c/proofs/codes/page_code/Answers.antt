@@ -1,6 +1,5 @@
 -- Each arm answers for its case.
 use mathlib.Core.Path.{sym, subst}
-use borrow.Author.Rules.{rules}
 use Rattle.pagecode.specs.declared.Answer.{Answer}
 use Rattle.has_c.specs.Codes.{Is, page_code}
 use Rattle.has_c.proofs.codes.page_code.Goals as goal

@@ -2,7 +2,6 @@
 use Prim.Native.Nat.{◌<◌}
 use native.Mathlib.Omega.{arith}
 use mathlib.Core.Path.{sym, subst}
-use borrow.Author.Rules.{rules}
 use Rattle.reader.specs.declared.reading.ReadAnswer.{ReadAnswer}
 use Rattle.has_c.specs.Codes.{Is, read_code}
 use Rattle.has_c.proofs.codes.read_code.Goals as goal

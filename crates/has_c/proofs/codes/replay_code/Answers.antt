@@ -2,7 +2,6 @@
 use Prim.Native.Nat.{◌<◌}
 use native.Mathlib.Omega.{arith}
 use mathlib.Core.Path.{sym, subst}
-use borrow.Author.Rules.{rules}
 use Rattle.drive.specs.declared.replaying.Replayed.{Replayed}
 use Rattle.has_c.specs.Codes.{Is, replay_code}
 use Rattle.has_c.proofs.codes.replay_code.Goals as goal

@@ -2,7 +2,6 @@
 use Prim.Native.Nat.{◌<◌}
 use native.Mathlib.Omega.{arith}
 use mathlib.Core.Path.{sym, subst}
-use borrow.Author.Rules.{rules}
 use Rattle.mt1.specs.declared.answer.TimeAnswer.{TimeAnswer}
 use Rattle.has_c.specs.Codes.{Is, time_code}
 use Rattle.has_c.proofs.codes.time_code.Goals as goal

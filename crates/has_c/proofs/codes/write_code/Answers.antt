@@ -2,7 +2,6 @@
 use Prim.Native.Nat.{◌<◌}
 use native.Mathlib.Omega.{arith}
 use mathlib.Core.Path.{sym, subst}
-use borrow.Author.Rules.{rules}
 use Rattle.writer.specs.declared.writing.WriteAnswer.{WriteAnswer}
 use Rattle.has_c.specs.Codes.{Is, write_code}
 use Rattle.has_c.proofs.codes.write_code.Goals as goal

@@ -1,8 +1,6 @@
 -- The checks in their order; behind them the feed of the collector, whose next head is written.
 use mathlib.Core.Path.{refl, sym, ◌∙◌}
 use lib.ListN.{length}
-use borrow.Author.Tests.{not-true, not-false}
-use borrow.Author.Rules.{rules}
 use Rattle.collector.specs.Feed.{Call}
 use Rattle.image.specs.Reading.{Holds}
 use Rattle.image.proofs.Starts.{held}

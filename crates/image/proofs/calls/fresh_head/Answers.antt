@@ -1,7 +1,6 @@
 -- The places of the collector that has no page.
 use mathlib.Core.List.{List}
 use mathlib.Core.Path.{ap}
-use borrow.Author.Rules.{rules}
 use Rattle.collector.specs.declared.state.Place.{Place}
 use Rattle.image.proofs.calls.fresh_head.Goals as goal
 

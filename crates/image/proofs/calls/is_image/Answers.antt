@@ -1,6 +1,4 @@
 -- The head is written again to the octets that it was read of, and then the collector's own test decides.
-use borrow.Author.Tests.{not-true, not-false}
-use borrow.Author.Rules.{rules}
 use Rattle.image.proofs.Feeding.{differs, agrees}
 use Rattle.image.proofs.calls.is_image.Goals as goal
 

@@ -2,8 +2,6 @@
 use mathlib.Core.Path.{sym, ap, ◌∙◌}
 use Prim.Native.Nat.{ℕ}
 use lib.ListN.{replicate}
-use borrow.Author.Tests.{not-true, not-false}
-use borrow.Author.Rules.{rules}
 use Rattle.image.proofs.Starts.{held, start-length, start-timeout, start-good}
 use Rattle.image.proofs.Lengths.{long-head, long-store}
 use Rattle.image.proofs.calls.start.Goals as goal

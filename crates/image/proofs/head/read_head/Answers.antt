@@ -1,6 +1,5 @@
 -- Two numbers, and the places behind them.
 use mathlib.Core.Path.{refl}
-use borrow.Author.Rules.{rules}
 use Rattle.image.proofs.head.read_head.Goals as goal
 
 pub returns : goal.returns

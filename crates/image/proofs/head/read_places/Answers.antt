@@ -1,13 +1,12 @@
 -- After i turns the first i places are laid over the free ones.
 use mathlib.Core.List.{[]}
-use mathlib.Core.Path.{◌≡◌, sym, ap, ◌∙◌}
-use Prim.Native.Nat.{◌*◌, ◌-◌, ◌≤◌}
+use mathlib.Core.Path.{sym, ap, ◌∙◌}
+use Prim.Native.Nat.{◌*◌}
 use native.Mathlib.Nat.{zero-add}
 use native.Mathlib.Omega.{arith}
-use lib.ListN.{length, take, drop}
+use lib.ListN.{length, drop}
 use lib.Seq.{drop-drop}
 use borrow.Author.Rules.{rules}
-use Rattle.lists.specs.Lists.{laid}
 use Rattle.collector.specs.declared.state.PlaceState.TheVariants.{Free}
 use Rattle.collector.specs.declared.state.Place.{Place}
 use Rattle.lists.proofs.Laid.{laid_none, laid_next, laid-all, laid-over}

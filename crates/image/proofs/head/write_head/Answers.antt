@@ -1,12 +1,11 @@
 -- After i turns the first i places are laid behind the time-out and the last second.
 use mathlib.Core.List.{[]}
 use mathlib.Core.Path.{◌≡◌}
-use Prim.Native.Nat.{◌-◌, ◌≤◌}
 use native.Mathlib.Omega.{arith}
-use lib.ListN.{length, length-map}
+use lib.ListN.{length}
 use borrow.Author.Rules.{rules}
 use Rattle.collector.specs.declared.state.PlaceState.TheVariants.{Free}
-use Rattle.image.proofs.Parts.{Put, put-none, put-more, head-laid}
+use Rattle.image.proofs.Parts.{put-none, put-more, head-laid}
 use Rattle.image.proofs.head.write_head.Goals as goal
 
 pub loop-i-init : goal.loop-i-init

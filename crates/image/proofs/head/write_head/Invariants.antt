@@ -1,12 +1,8 @@
 -- After i turns the first i places are laid behind the time-out and the last second.
-use mathlib.Core.List.{[]}
 use mathlib.Core.Path.{◌≡◌}
 use Prim.Native.Nat.{◌-◌, ◌≤◌}
-use native.Mathlib.Omega.{arith}
-use lib.ListN.{length, length-map}
-use borrow.Author.Rules.{rules}
-use Rattle.collector.specs.declared.state.PlaceState.TheVariants.{Free}
-use Rattle.image.proofs.Parts.{Put, put-none, put-more, head-laid}
+use lib.ListN.{length}
+use Rattle.image.proofs.Parts.{Put}
 use Rattle.image.proofs.head.write_head.Given as goal
 
 abbrev pub invariant-loop-i : goal.invariant-loop-i

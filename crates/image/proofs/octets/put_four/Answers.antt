@@ -1,7 +1,6 @@
 -- Four octets set one behind another are laid at once.
 use native.Mathlib.Omega.{arith}
 use lib.ListN.{length-set}
-use borrow.Author.Rules.{rules}
 use Rattle.image.proofs.Laying.{set-four}
 use Rattle.image.proofs.octets.put_four.Goals as goal
 

@@ -1,5 +1,4 @@
 -- Each remainder by 256 is an octet, and the four are put at once.
-use borrow.Author.Rules.{rules}
 use Rattle.image.proofs.octets.put_word.Goals as goal
 
 pub returns : goal.returns

@@ -1,14 +1,9 @@
 -- After j turns the first j of the 32 octets are laid over the zeros.
-use mathlib.Core.Path.{◌≡◌, sym, ◌∙◌}
+use mathlib.Core.Path.{◌≡◌}
 use mathlib.Core.List.{List}
-use Prim.Native.Nat.{ℕ, ◌+◌, ◌-◌, ◌≤◌, ◌<◌}
-use native.Mathlib.Nat.{zero-add}
-use native.Mathlib.Omega.{arith}
-use lib.ListN.{length, get_or, take, drop, replicate, length-drop}
-use lib.Seq.{get_or-take, get_or-drop, length-take-le}
-use borrow.Author.Rules.{rules}
+use Prim.Native.Nat.{ℕ, ◌-◌, ◌≤◌}
+use lib.ListN.{take, drop}
 use Rattle.lists.specs.Lists.{laid}
-use Rattle.lists.proofs.Laid.{laid_none, laid_next, laid-all, laid-over}
 use Rattle.image.proofs.octets.read_numbers.Given as goal
 
 abbrev pub part : List ℕ → ℕ → List ℕ

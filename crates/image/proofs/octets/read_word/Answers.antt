@@ -1,5 +1,4 @@
 -- Each octet is widened, and the sum is the number.
-use borrow.Author.Rules.{rules}
 use Rattle.image.proofs.Standing.{word-at}
 use Rattle.image.proofs.octets.read_word.Goals as goal
 

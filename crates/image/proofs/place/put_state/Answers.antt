@@ -1,9 +1,5 @@
 -- The number is laid behind the first four octets, and the count behind it.
-use mathlib.Core.Path.{ap, ◌∙◌}
 use native.Mathlib.Omega.{arith}
-use lib.ListN.{length}
-use borrow.Author.Rules.{rules}
-use Rattle.lists.proofs.Laid.{laid-length}
 use Rattle.image.proofs.Parts.{state-laid}
 use Rattle.image.proofs.place.put_state.Goals as goal
 

@@ -1,5 +1,4 @@
 -- The three octets behind the first.
-use borrow.Author.Rules.{rules}
 use Rattle.image.proofs.Standing.{key-at}
 use Rattle.image.proofs.place.read_key.Goals as goal
 

@@ -4,7 +4,6 @@ use mathlib.Core.Path.{sym, ap, ap₂, ◌∙◌}
 use Prim.Native.Nat.{ℕ}
 use lib.ListN.{take}
 use lib.Seq.{drop-drop}
-use borrow.Author.Rules.{rules}
 use Rattle.collector.specs.declared.state.PlaceState.{PlaceState}
 use Rattle.image.proofs.place.read_place.Goals as goal
 

@@ -1,8 +1,5 @@
 -- The first octet decides: open, done, or free.
-use Prim.Native.Nat.{◌+◌}
-use native.Mathlib.Omega.{arith}
 use borrow.Author.Tests.{eq-eqb, ne_eqb}
-use borrow.Author.Rules.{rules}
 use Rattle.image.proofs.Standing.{open_at, done_at, free-at}
 use Rattle.image.proofs.place.read_state.Goals as goal
 

@@ -1,5 +1,4 @@
 -- Each case of the state has its nine octets.
-use borrow.Author.Rules.{rules}
 use Rattle.image.proofs.Parts.{state-told}
 use Rattle.image.proofs.place.write_state.Goals as goal
 

@@ -1,6 +1,5 @@
 -- The index is judged before the table is read.
 use native.Mathlib.Omega.{arith}
-use borrow.Author.Rules.{rules}
 use borrow.Author.Tests.{lt-ltb, le-ltb}
 use Rattle.mt1.specs.Interval.{interval_seconds}
 use Rattle.mt1.proofs.interval.interval_seconds.Goals as goal

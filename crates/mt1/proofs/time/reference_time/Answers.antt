@@ -1,6 +1,5 @@
 -- The checks of the definition, in its order.
 use native.Mathlib.Omega.{arith}
-use borrow.Author.Rules.{rules}
 use borrow.Author.Tests.{lt-ltb, le-ltb}
 use Rattle.mt1.specs.Time.{reference_time}
 use Rattle.mt1.proofs.time.reference_time.Goals as goal

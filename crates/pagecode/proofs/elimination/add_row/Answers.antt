@@ -1,13 +1,10 @@
 -- The result is the sum: each turn sets one element of it.
 use mathlib.Core.Path.{◌≡◌, refl, sym}
-use Prim.Native.Nat.{◌-◌, ◌≤◌}
 use native.Mathlib.Omega.{arith}
 use lib.ListN.{length, take, length-take}
 use lib.Seq.{get_or-take}
 use borrow.Author.Rules.{rules}
 use Rattle.pagecode.specs.Field.{◌⊕◌}
-use Rattle.pagecode.specs.Code.{plus}
-use Rattle.pagecode.proofs.Fill.{Filled}
 use Rattle.pagecode.proofs.Lines.{sum-next, sum_done}
 use Rattle.pagecode.proofs.elimination.add_row.Goals as goal
 

@@ -1,17 +1,17 @@
 -- The row takes the line's right sides: each turn adds one octet of them.
 use mathlib.Core.Path.{◌≡◌, refl, sym, ◌∙◌}
 use mathlib.Core.List.{List}
-use Prim.Native.Nat.{ℕ, ◌+◌, ◌*◌, ◌-◌, ◌≤◌}
+use Prim.Native.Nat.{ℕ, ◌+◌, ◌*◌}
 use native.Mathlib.Omega.{arith}
 use lib.Bits.{bit_xor}
-use lib.ListN.{length, get_or, take, drop, length-set, length-take, length-drop}
+use lib.ListN.{length, get_or, drop, length-set, length-take, length-drop}
 use lib.Seq.{get_or-take, get_or-drop}
 use borrow.Author.Rules.{rules}
 use Rattle.pagecode.specs.Field.{◌⊕◌}
 use Rattle.pagecode.proofs.Linear.{⊕-comm}
-use Rattle.pagecode.proofs.Partial.{partial, begin, turn, end}
+use Rattle.pagecode.proofs.Partial.{begin, turn, end}
 use Rattle.pagecode.proofs.elimination.add_side.Goals as goal
-use Rattle.pagecode.proofs.elimination.add_side.Invariants.{Inv, part}
+use Rattle.pagecode.proofs.elimination.add_side.Invariants.{part}
 
 part_length : (a : List ℕ) → length a ≡ 96 → length (part a) ≡ 53
 part_length a h = omega (arith, length-take 53 (drop 32 a), length-drop 32 a)

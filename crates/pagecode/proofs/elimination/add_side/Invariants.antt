@@ -1,15 +1,9 @@
 -- The row takes the line's right sides: each turn adds one octet of them.
-use mathlib.Core.Path.{◌≡◌, refl, sym, ◌∙◌}
+use mathlib.Core.Path.{◌≡◌}
 use mathlib.Core.List.{List}
-use Prim.Native.Nat.{ℕ, ◌+◌, ◌*◌, ◌-◌, ◌≤◌}
-use native.Mathlib.Omega.{arith}
-use lib.Bits.{bit_xor}
-use lib.ListN.{length, get_or, take, drop, length-set, length-take, length-drop}
-use lib.Seq.{get_or-take, get_or-drop}
-use borrow.Author.Rules.{rules}
-use Rattle.pagecode.specs.Field.{◌⊕◌}
-use Rattle.pagecode.proofs.Linear.{⊕-comm}
-use Rattle.pagecode.proofs.Partial.{partial, begin, turn, end}
+use Prim.Native.Nat.{ℕ, ◌*◌, ◌-◌, ◌≤◌}
+use lib.ListN.{length, take, drop}
+use Rattle.pagecode.proofs.Partial.{partial}
 use Rattle.pagecode.proofs.elimination.add_side.Given as goal
 
 abbrev pub part : List ℕ → List ℕ

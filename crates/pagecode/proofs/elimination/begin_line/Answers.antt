@@ -1,12 +1,12 @@
 -- The row stands in front: each turn copies one octet of it.
 use mathlib.Core.Path.{◌≡◌, refl, ap, ◌∙◌}
 use mathlib.Core.List.{List, ◌++◌}
-use Prim.Native.Nat.{ℕ, ◌-◌, ◌≤◌}
+use Prim.Native.Nat.{ℕ}
 use native.Mathlib.Omega.{arith}
 use lib.ListN.{length, get_or, take, drop, replicate}
 use lib.Seq.{take_all}
 use borrow.Author.Rules.{rules}
-use Rattle.pagecode.proofs.Fill.{Filled, fill-next}
+use Rattle.pagecode.proofs.Fill.{fill-next}
 use Rattle.pagecode.proofs.elimination.begin_line.Goals as goal
 
 pub loop-j-init : goal.loop-j-init

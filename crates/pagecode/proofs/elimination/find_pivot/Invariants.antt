@@ -1,12 +1,8 @@
 -- The first row with an entry is found: the rows that were passed have none, and a row from q on has one.
-use mathlib.Core.Path.{sym, ◌∙◌}
 use mathlib.Core.List.{[]}
 use Prim.Native.Nat.{◌-◌}
-use native.Mathlib.Omega.{arith}
-use borrow.Author.Rules.{rules}
 use Rattle.pagecode.specs.System.{cell}
-use Rattle.pagecode.proofs.Cells.{cell-low}
-use Rattle.pagecode.proofs.Steps.{Seeking, seek-start, seek-next, seek_found, seek-end}
+use Rattle.pagecode.proofs.Steps.{Seeking}
 use Rattle.pagecode.proofs.elimination.find_pivot.Given as goal
 
 abbrev pub invariant-loop-r : goal.invariant-loop-r

@@ -1,9 +1,9 @@
 -- The row of right sides stands behind the row: each turn copies one octet of it.
 use mathlib.Core.Path.{◌≡◌, ap, sym, ◌∙◌}
-use Prim.Native.Nat.{◌+◌, ◌-◌, ◌≤◌}
+use Prim.Native.Nat.{◌+◌}
 use native.Mathlib.Omega.{arith}
 use lib.ListN.{length, set}
-use lib.Seq.{paste, paste-zero}
+use lib.Seq.{paste-zero}
 use borrow.Author.Rules.{rules}
 use Rattle.pagecode.proofs.Content.{copy-next}
 use Rattle.pagecode.proofs.Pieces.{piece, piece-get, piece-length}

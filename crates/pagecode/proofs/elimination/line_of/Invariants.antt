@@ -1,13 +1,8 @@
 -- The row of right sides stands behind the row: each turn copies one octet of it.
-use mathlib.Core.Path.{◌≡◌, ap, sym, ◌∙◌}
-use Prim.Native.Nat.{◌+◌, ◌-◌, ◌≤◌}
-use native.Mathlib.Omega.{arith}
-use lib.ListN.{length, set}
-use lib.Seq.{paste, paste-zero}
-use borrow.Author.Rules.{rules}
-use Rattle.pagecode.proofs.Content.{copy-next}
-use Rattle.pagecode.proofs.Pieces.{piece, piece-get, piece-length}
-use Rattle.pagecode.proofs.Lines.{lined}
+use mathlib.Core.Path.{◌≡◌}
+use Prim.Native.Nat.{◌-◌, ◌≤◌}
+use lib.Seq.{paste}
+use Rattle.pagecode.proofs.Pieces.{piece}
 use Rattle.pagecode.proofs.elimination.line_of.Given as goal
 
 abbrev pub invariant-loop-j : goal.invariant-loop-j

@@ -3,7 +3,6 @@ use mathlib.Core.Path.{ap₂, ◌∙◌}
 use mathlib.Core.List.{[]}
 use Prim.Native.Nat.{ℕ}
 use lib.ListN.{get_or}
-use borrow.Author.Rules.{rules}
 use Rattle.pagecode.specs.Code.{plus}
 use Rattle.pagecode.proofs.elimination.look_up.Goals as goal
 

@@ -1,11 +1,10 @@
 -- The result is the multiple: 0 times a line is 0, and else each turn sets one element of it.
 use mathlib.Core.Path.{◌≡◌, refl, sym, ap, ◌∙◌}
-use Prim.Native.Nat.{ℕ, ◌-◌, ◌≤◌}
+use Prim.Native.Nat.{ℕ}
 use lib.ListN.{length, get_or, replicate}
 use borrow.Author.Rules.{rules}
 use Rattle.pagecode.specs.Code.{scale}
 use Rattle.pagecode.proofs.Laws.{⊗-comm}
-use Rattle.pagecode.proofs.Fill.{Filled}
 use Rattle.pagecode.proofs.Lines.{scale-none, scale-next, scale-done}
 use Rattle.pagecode.proofs.elimination.scale_line.Goals as goal
 

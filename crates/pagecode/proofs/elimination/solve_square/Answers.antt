@@ -1,11 +1,9 @@
 -- The right sides become the solution: each turn clears one column more, and a regular square always has a row with an entry there.
-use mathlib.Core.Path.{◌≡◌, refl}
-use Prim.Native.Nat.{◌-◌}
-use lib.ListN.{length}
+use mathlib.Core.Path.{refl}
 use borrow.Author.Rules.{rules}
 use Rattle.pagecode.specs.System.{cell}
 use Rattle.pagecode.proofs.Cells.{rows-octets}
-use Rattle.pagecode.proofs.Reduced.{pivoted, SolveLoop, solve-start, solve-turn, solve-end}
+use Rattle.pagecode.proofs.Reduced.{pivoted, solve-start, solve-turn, solve-end}
 use Rattle.pagecode.proofs.elimination.solve_square.Goals as goal
 
 pub loop-q-init : goal.loop-q-init

@@ -1,11 +1,8 @@
 -- The right sides become the solution: each turn clears one column more, and a regular square always has a row with an entry there.
-use mathlib.Core.Path.{◌≡◌, refl}
+use mathlib.Core.Path.{◌≡◌}
 use Prim.Native.Nat.{◌-◌}
 use lib.ListN.{length}
-use borrow.Author.Rules.{rules}
-use Rattle.pagecode.specs.System.{cell}
-use Rattle.pagecode.proofs.Cells.{rows-octets}
-use Rattle.pagecode.proofs.Reduced.{pivoted, SolveLoop, solve-start, solve-turn, solve-end}
+use Rattle.pagecode.proofs.Reduced.{SolveLoop}
 use Rattle.pagecode.proofs.elimination.solve_square.Given as goal
 
 abbrev pub invariant-loop-q : goal.invariant-loop-q

@@ -1,10 +1,7 @@
 -- The result is the sum: each turn sets one element of it.
 use mathlib.Core.Path.{refl}
-use Prim.Native.Nat.{◌-◌, ◌≤◌}
 use borrow.Author.Rules.{rules}
 use Rattle.pagecode.specs.Field.{◌⊕◌}
-use Rattle.pagecode.specs.Code.{plus}
-use Rattle.pagecode.proofs.Fill.{Filled}
 use Rattle.pagecode.proofs.Lines.{sum-next, sum_done}
 use Rattle.pagecode.proofs.elimination.sum_lines.Goals as goal
 

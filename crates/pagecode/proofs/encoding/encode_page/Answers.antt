@@ -5,7 +5,7 @@ use mathlib.Core.Path.{◌≡◌, refl, sym, ap, ◌∙◌}
 use Prim.Native.Nat.{ℕ, ◌/◌, ◌≤◌}
 use lib.ListN.{length}
 use borrow.Author.Rules.{rules}
-use borrow.Author.Tests.{eq-eqb, ne_eqb, lt-ltb, le-ltb, not-true, not-false}
+use borrow.Author.Tests.{eq-eqb, ne_eqb, lt-ltb, le-ltb}
 use Rattle.pagecode.specs.Page.{header_octets, encoded_page}
 use Rattle.pagecode.specs.Encode.{are_pages, encode_answer}
 use Rattle.pagecode.proofs.LegalNumbers.{legal-is, some-pages, few-pages, whole-pages}
@@ -15,25 +15,25 @@ pub returns-then-not-are_pages : goal.returns-then-not-are_pages
 unfolding encode_answer
 returns-then-not-are_pages c =
     record {
-  answered = simp (sym c.are_pages.ensures ∙ c.if-not-are_pages.true);
-  buffer = refl;
-}
+      answered = simp (sym c.are_pages.ensures ∙ c.if-not-are_pages.true);
+      buffer = refl;
+    }
 
 pub returns-then-out-ne-PAGE_OCTETS : goal.returns-then-out-ne-PAGE_OCTETS
 unfolding encode_answer
 returns-then-out-ne-PAGE_OCTETS c =
     record {
-  answered = simp (sym c.are_pages.ensures ∙ c.if-not-are_pages.false, ne_eqb _ _ c.if-out-ne-PAGE_OCTETS.true);
-  buffer = refl;
-}
+      answered = simp (sym c.are_pages.ensures ∙ c.if-not-are_pages.false, ne_eqb _ _ c.if-out-ne-PAGE_OCTETS.true);
+      buffer = refl;
+    }
 
 pub returns-then-status-ge2 : goal.returns-then-status-ge2
 unfolding encode_answer
 returns-then-status-ge2 c =
     record {
-  answered = simp (sym c.are_pages.ensures ∙ c.if-not-are_pages.false, eq-eqb _ _ c.if-out-ne-PAGE_OCTETS.false, le-ltb _ 2 c.if-status-ge2.true);
-  buffer = refl;
-}
+      answered = simp (sym c.are_pages.ensures ∙ c.if-not-are_pages.false, eq-eqb _ _ c.if-out-ne-PAGE_OCTETS.false, le-ltb _ 2 c.if-status-ge2.true);
+      buffer = refl;
+    }
 
 pub returns-then-number-ge32 : goal.returns-then-number-ge32
 unfolding encode_answer

@@ -3,7 +3,6 @@ use mathlib.Core.Path.{◌≡◌, ap₂}
 use Prim.Native.Nat.{◌*◌, ◌/◌, ◌%◌}
 use native.Mathlib.Omega.{arith}
 use lib.Bits.{bit_xor}
-use borrow.Author.Rules.{rules}
 use Rattle.pagecode.specs.Field.{double}
 use Rattle.pagecode.proofs.field.doubled.Goals as goal
 

@@ -1,6 +1,5 @@
 -- The table's rule, at this entry.
 use native.Mathlib.Omega.{arith}
-use borrow.Author.Rules.{rules}
 use Rattle.pagecode.proofs.Tables.{inverses}
 use Rattle.pagecode.proofs.Power.{inverse-of}
 use Rattle.pagecode.proofs.field.inverse.Goals as goal

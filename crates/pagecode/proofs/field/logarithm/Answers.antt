@@ -1,6 +1,5 @@
 -- The table's rule, at this entry.
 use native.Mathlib.Omega.{arith}
-use borrow.Author.Rules.{rules}
 use Rattle.pagecode.proofs.Tables.{logs}
 use Rattle.pagecode.proofs.Power.{logarithm-of}
 use Rattle.pagecode.proofs.field.logarithm.Goals as goal

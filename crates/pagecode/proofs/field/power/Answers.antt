@@ -2,7 +2,6 @@
 use mathlib.Core.Path.{◌∙◌, sym}
 use Prim.Native.Nat.{◌%◌}
 use native.Mathlib.Omega.{arith}
-use borrow.Author.Rules.{rules}
 use Rattle.pagecode.proofs.Tables.{powers}
 use Rattle.pagecode.proofs.Power.{powers-at, power-round}
 use Rattle.pagecode.proofs.field.power.Goals as goal

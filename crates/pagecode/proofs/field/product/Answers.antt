@@ -3,7 +3,6 @@ use mathlib.Core.Path.{◌≡◌, refl, ap}
 use Prim.Native.Nat.{ℕ, ◌*◌, ◌/◌, ◌%◌, ◌<◌}
 use native.Mathlib.Omega.{arith}
 use lib.Bits.{bit_xor}
-use borrow.Author.Rules.{rules}
 use Rattle.pagecode.specs.Field.{double, shift_add, ◌⊗◌}
 use Rattle.pagecode.proofs.field.product.Goals as goal
 

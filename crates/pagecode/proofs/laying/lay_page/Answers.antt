@@ -1,7 +1,7 @@
 -- Where p is 0 nothing is laid; else each turn copies one octet of the page.
 use Prim.Native.Nat.{◌-◌, ◌*◌}
 use native.Mathlib.Omega.{arith}
-use Rattle.pagecode.proofs.LaidPages.{Copied, copy_start, copy-turn, copy-end, none-laid}
+use Rattle.pagecode.proofs.LaidPages.{copy_start, copy-turn, copy-end, none-laid}
 use borrow.Author.Rules.{rules}
 use Rattle.pagecode.proofs.laying.lay_page.Goals as goal
 

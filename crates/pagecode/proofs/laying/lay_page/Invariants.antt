@@ -1,8 +1,6 @@
 -- Where p is 0 nothing is laid; else each turn copies one octet of the page.
 use Prim.Native.Nat.{◌-◌, ◌*◌}
-use native.Mathlib.Omega.{arith}
-use Rattle.pagecode.proofs.LaidPages.{Copied, copy_start, copy-turn, copy-end, none-laid}
-use borrow.Author.Rules.{rules}
+use Rattle.pagecode.proofs.LaidPages.{Copied}
 use Rattle.pagecode.proofs.laying.lay_page.Given as goal
 
 abbrev pub invariant-loop-j : goal.invariant-loop-j

@@ -1,8 +1,7 @@
 -- Each turn lays one page more.
 use mathlib.Core.Path.{◌≡◌, ◌∙◌, subst}
-use Prim.Native.Nat.{ℕ, ◌-◌, ◌≤◌}
+use Prim.Native.Nat.{ℕ}
 use native.Mathlib.Omega.{arith}
-use lib.ListN.{length}
 use Rattle.pagecode.specs.Reduction.{PagesLaid}
 use Rattle.pagecode.proofs.LaidPages.{pages-start, pages-turn}
 use borrow.Author.Rules.{rules}

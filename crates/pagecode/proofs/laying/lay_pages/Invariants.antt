@@ -1,11 +1,8 @@
 -- Each turn lays one page more.
-use mathlib.Core.Path.{◌≡◌, ◌∙◌, subst}
-use Prim.Native.Nat.{ℕ, ◌-◌, ◌≤◌}
-use native.Mathlib.Omega.{arith}
+use mathlib.Core.Path.{◌≡◌}
+use Prim.Native.Nat.{◌-◌, ◌≤◌}
 use lib.ListN.{length}
 use Rattle.pagecode.specs.Reduction.{PagesLaid}
-use Rattle.pagecode.proofs.LaidPages.{pages-start, pages-turn}
-use borrow.Author.Rules.{rules}
 use Rattle.pagecode.proofs.laying.lay_pages.Given as goal
 
 abbrev pub invariant-loop-i : goal.invariant-loop-i

@@ -1,6 +1,6 @@
 -- After j turns the first j entries are those that the table of inverses has for their sums.
 use mathlib.Core.Path.{◌≡◌, refl, sym, ap, ◌∙◌, subst}
-use Prim.Native.Nat.{ℕ, ◌-◌, ◌≤◌, ◌<◌}
+use Prim.Native.Nat.{ℕ, ◌-◌, ◌<◌}
 use native.Mathlib.Omega.{arith}
 use lib.ListN.{get_or}
 use borrow.Author.Rules.{rules}
@@ -8,7 +8,7 @@ use Rattle.pagecode.specs.Field.{◌⊕◌, power, Inverse}
 use Rattle.pagecode.proofs.Linear.{⊕-lt}
 use Rattle.pagecode.proofs.Tables.{powers, inverses}
 use Rattle.pagecode.proofs.Power.{power-lt, powers-at, inverse-of}
-use Rattle.pagecode.proofs.Stored.{Stored, store-next}
+use Rattle.pagecode.proofs.Stored.{store-next}
 use Rattle.pagecode.proofs.matrix.invert_sums.Goals as goal
 use Rattle.pagecode.proofs.matrix.invert_sums.Invariants.{found}
 

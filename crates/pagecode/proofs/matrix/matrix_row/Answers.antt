@@ -1,6 +1,5 @@
 -- Of one of the first 32 pages the row is a unit row. Of another it is the dense part's.
 use native.Mathlib.Omega.{arith}
-use borrow.Author.Rules.{rules}
 use Rattle.pagecode.proofs.Rows.{unit_row}
 use Rattle.pagecode.proofs.matrix.matrix_row.Goals as goal
 

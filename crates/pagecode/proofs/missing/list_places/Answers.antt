@@ -2,8 +2,8 @@
 use mathlib.Core.Path.{◌≡◌, refl, sym, ◌∙◌, subst}
 use Prim.Native.Nat.{ℕ, ◌+◌, ◌-◌, ◌≤◌}
 use native.Mathlib.Omega.{arith}
-use lib.ListN.{length, get_or, set, length-set}
-use Rattle.pagecode.specs.Reduction.{AreNoughts, AreOthers}
+use lib.ListN.{get_or, set, length-set}
+use Rattle.pagecode.specs.Reduction.{AreNoughts}
 use Rattle.pagecode.proofs.Noughts.{nought-le, list-start, list_turn, others-turn}
 use borrow.Author.Rules.{rules}
 use Rattle.pagecode.proofs.missing.list_places.Goals as goal

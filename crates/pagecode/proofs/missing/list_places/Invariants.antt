@@ -1,11 +1,8 @@
 -- Each turn writes its place behind the noughts so far, and behind the others so far; it stays in the list that it belongs to.
-use mathlib.Core.Path.{◌≡◌, refl, sym, ◌∙◌, subst}
-use Prim.Native.Nat.{ℕ, ◌+◌, ◌-◌, ◌≤◌}
-use native.Mathlib.Omega.{arith}
-use lib.ListN.{length, get_or, set, length-set}
+use mathlib.Core.Path.{◌≡◌}
+use Prim.Native.Nat.{◌-◌, ◌≤◌}
+use lib.ListN.{length}
 use Rattle.pagecode.specs.Reduction.{AreNoughts, AreOthers}
-use Rattle.pagecode.proofs.Noughts.{nought-le, list-start, list_turn, others-turn}
-use borrow.Author.Rules.{rules}
 use Rattle.pagecode.proofs.missing.list_places.Given as goal
 
 abbrev pub invariant-loop-j : goal.invariant-loop-j

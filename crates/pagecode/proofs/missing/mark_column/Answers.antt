@@ -1,5 +1,4 @@
 -- Each return is the contract's value where its branch leads.
-use borrow.Author.Rules.{rules}
 use borrow.Author.Tests.{eq-eqb, ne_eqb}
 use Rattle.pagecode.proofs.missing.mark_column.Goals as goal
 

@@ -1,9 +1,8 @@
 -- Each turn marks the column of one page more.
-use Prim.Native.Nat.{◌-◌, ◌≤◌}
+use Prim.Native.Nat.{◌≤◌}
 use native.Mathlib.Omega.{arith}
-use Rattle.pagecode.proofs.Noughts.{Marking, mark-start, mark-turn, mark-end}
+use Rattle.pagecode.proofs.Noughts.{mark-start, mark-turn, mark-end}
 use lib.ListN.{get_or}
-use borrow.Author.Rules.{rules}
 use Rattle.pagecode.proofs.missing.mark_columns.Goals as goal
 
 pub loop-i-init : goal.loop-i-init

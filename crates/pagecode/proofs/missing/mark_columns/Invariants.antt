@@ -1,9 +1,6 @@
 -- Each turn marks the column of one page more.
-use Prim.Native.Nat.{◌-◌, ◌≤◌}
-use native.Mathlib.Omega.{arith}
-use Rattle.pagecode.proofs.Noughts.{Marking, mark-start, mark-turn, mark-end}
-use lib.ListN.{get_or}
-use borrow.Author.Rules.{rules}
+use Prim.Native.Nat.{◌-◌}
+use Rattle.pagecode.proofs.Noughts.{Marking}
 use Rattle.pagecode.proofs.missing.mark_columns.Given as goal
 
 abbrev pub invariant-loop-i : goal.invariant-loop-i

@@ -1,5 +1,4 @@
 -- Each return is the definition's value where its branch leads.
-use borrow.Author.Rules.{rules}
 use borrow.Author.Tests.{le-leb, lt-leb}
 use Rattle.pagecode.specs.Reduction.{plain_number}
 use Rattle.pagecode.proofs.missing.plain_number.Goals as goal

@@ -1,10 +1,9 @@
 -- After i turns the first i are those of the first i numbers.
 use mathlib.Core.Path.{refl}
-use Prim.Native.Nat.{◌-◌, ◌≤◌}
 use native.Mathlib.Omega.{arith}
-use lib.ListN.{length, get_or}
+use lib.ListN.{get_or}
 use Rattle.pagecode.specs.Reduction.{plain_number}
-use Rattle.pagecode.proofs.Stored.{Stored, store-next}
+use Rattle.pagecode.proofs.Stored.{store-next}
 use borrow.Author.Rules.{rules}
 use Rattle.pagecode.proofs.missing.plain_numbers.Goals as goal
 

@@ -2,7 +2,7 @@
 use mathlib.Core.Bool.{true, not, ◌&&◌}
 use mathlib.Core.List.{List}
 use mathlib.Core.Path.{◌≡◌, refl, sym, ap, ◌∙◌}
-use Prim.Native.Nat.{ℕ, ◌+◌, ◌-◌, ◌≤◌, ◌<◌}
+use Prim.Native.Nat.{ℕ, ◌+◌, ◌≤◌, ◌<◌}
 use lib.ListN.{length, get_or, drop, drop_of_length-le}
 use borrow.Author.Rules.{rules}
 use Rattle.pagecode.specs.Solve.{is_in, different}

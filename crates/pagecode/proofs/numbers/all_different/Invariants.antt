@@ -1,12 +1,8 @@
 -- Whatever was passed stands nowhere behind its place, so the whole list is what is left of it.
-use mathlib.Core.Bool.{true, not, ◌&&◌}
-use mathlib.Core.List.{List}
-use mathlib.Core.Path.{◌≡◌, refl, sym, ap, ◌∙◌}
-use Prim.Native.Nat.{ℕ, ◌+◌, ◌-◌, ◌≤◌, ◌<◌}
-use lib.ListN.{length, get_or, drop, drop_of_length-le}
-use borrow.Author.Rules.{rules}
-use Rattle.pagecode.specs.Solve.{is_in, different}
-use Rattle.pagecode.proofs.Walk.{front}
+use mathlib.Core.Path.{◌≡◌}
+use Prim.Native.Nat.{◌-◌}
+use lib.ListN.{length, drop}
+use Rattle.pagecode.specs.Solve.{different}
 use Rattle.pagecode.proofs.numbers.all_different.Given as goal
 
 abbrev pub invariant-loop-i : goal.invariant-loop-i

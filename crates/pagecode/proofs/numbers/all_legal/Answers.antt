@@ -2,10 +2,9 @@
 use mathlib.Core.Bool.{true, ◌&&◌}
 use mathlib.Core.List.{List}
 use mathlib.Core.Path.{◌≡◌, refl, sym, ap, ◌∙◌}
-use Prim.Native.Nat.{ℕ, ◌+◌, ◌-◌, ◌≤◌, ◌<◌}
+use Prim.Native.Nat.{ℕ, ◌+◌, ◌≤◌, ◌<◌}
 use lib.ListN.{length, get_or, drop, drop_of_length-le}
 use borrow.Author.Rules.{rules}
-use borrow.Author.Tests.{not-true, not-false}
 use Rattle.pagecode.specs.Page.{legal}
 use Rattle.pagecode.specs.Solve.{all_legal}
 use Rattle.pagecode.proofs.Walk.{front}

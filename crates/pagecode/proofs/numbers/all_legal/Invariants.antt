@@ -1,14 +1,8 @@
 -- Whatever was passed is legal, so the whole list is what is left of it.
-use mathlib.Core.Bool.{true, ◌&&◌}
-use mathlib.Core.List.{List}
-use mathlib.Core.Path.{◌≡◌, refl, sym, ap, ◌∙◌}
-use Prim.Native.Nat.{ℕ, ◌+◌, ◌-◌, ◌≤◌, ◌<◌}
-use lib.ListN.{length, get_or, drop, drop_of_length-le}
-use borrow.Author.Rules.{rules}
-use borrow.Author.Tests.{not-true, not-false}
-use Rattle.pagecode.specs.Page.{legal}
+use mathlib.Core.Path.{◌≡◌}
+use Prim.Native.Nat.{◌-◌}
+use lib.ListN.{length, drop}
 use Rattle.pagecode.specs.Solve.{all_legal}
-use Rattle.pagecode.proofs.Walk.{front}
 use Rattle.pagecode.proofs.numbers.all_legal.Given as goal
 
 abbrev pub invariant-loop-i : goal.invariant-loop-i

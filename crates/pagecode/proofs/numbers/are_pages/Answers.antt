@@ -1,5 +1,4 @@
 -- Each return is the test's value where its branches lead.
-use borrow.Author.Rules.{rules}
 use borrow.Author.Tests.{le-leb, lt-leb}
 use Rattle.pagecode.specs.Encode.{are_pages}
 use Rattle.pagecode.proofs.numbers.are_pages.Goals as goal

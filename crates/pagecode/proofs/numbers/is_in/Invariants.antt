@@ -1,14 +1,8 @@
 -- Whatever was passed is another number, so the list is what is left of it.
-use mathlib.Core.Bool.{false, ◌||◌}
-use mathlib.Core.List.{List}
-use mathlib.Core.Path.{◌≡◌, refl, sym, ap, ◌∙◌}
-use Prim.Native.Nat.{ℕ, ◌+◌, ◌-◌, ◌≤◌, ◌<◌}
-use lib.Dec.{eqb}
-use lib.ListN.{length, get_or, drop, drop_of_length-le}
-use borrow.Author.Rules.{rules}
-use borrow.Author.Tests.{eq-eqb, ne_eqb}
+use mathlib.Core.Path.{◌≡◌}
+use Prim.Native.Nat.{◌-◌}
+use lib.ListN.{length, drop}
 use Rattle.pagecode.specs.Solve.{is_in}
-use Rattle.pagecode.proofs.Walk.{front}
 use Rattle.pagecode.proofs.numbers.is_in.Given as goal
 
 abbrev pub invariant-loop-i : goal.invariant-loop-i

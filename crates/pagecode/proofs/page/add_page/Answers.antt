@@ -1,15 +1,12 @@
 -- The loop fills the sum from the front: a turn sets its next octet, the old one plus the product.
 use mathlib.Core.Path.{◌≡◌, refl, sym, ap, ◌∙◌}
-use mathlib.Core.List.{List}
-use Prim.Native.Nat.{ℕ, ◌-◌, ◌≤◌}
+use Prim.Native.Nat.{ℕ}
 use lib.ListN.{length}
 use borrow.Author.Rules.{rules}
 use Rattle.pagecode.specs.Field.{◌⊕◌, ◌⊗◌}
-use Rattle.pagecode.proofs.Fill.{Filled}
 use Rattle.pagecode.proofs.Pieces.{piece, piece-length, piece-get}
-use Rattle.pagecode.proofs.Multiples.{more, more-next, more-done}
+use Rattle.pagecode.proofs.Multiples.{more-next, more-done}
 use Rattle.pagecode.proofs.page.add_page.Goals as goal
-use Rattle.pagecode.proofs.page.add_page.Invariants.{Inv}
 
 pub loop-j-init : goal.loop-j-init
 loop-j-init c = record { is = refl; upto = search rules }

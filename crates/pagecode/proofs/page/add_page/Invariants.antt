@@ -1,13 +1,9 @@
 -- The loop fills the sum from the front: a turn sets its next octet, the old one plus the product.
-use mathlib.Core.Path.{◌≡◌, refl, sym, ap, ◌∙◌}
 use mathlib.Core.List.{List}
 use Prim.Native.Nat.{ℕ, ◌-◌, ◌≤◌}
-use lib.ListN.{length}
-use borrow.Author.Rules.{rules}
-use Rattle.pagecode.specs.Field.{◌⊕◌, ◌⊗◌}
 use Rattle.pagecode.proofs.Fill.{Filled}
-use Rattle.pagecode.proofs.Pieces.{piece, piece-length, piece-get}
-use Rattle.pagecode.proofs.Multiples.{more, more-next, more-done}
+use Rattle.pagecode.proofs.Pieces.{piece}
+use Rattle.pagecode.proofs.Multiples.{more}
 use Rattle.pagecode.proofs.page.add_page.Given as goal
 
 pub record Inv (d m : List ℕ) (i f : ℕ) (s : List ℕ) (j : ℕ) : Type 0 where

@@ -1,14 +1,12 @@
 -- The loop's array is the content for the message's first i pages: a turn adds the next page times its entry.
 use mathlib.Core.Path.{◌≡◌, ap, ◌∙◌}
-use mathlib.Core.List.{List}
-use Prim.Native.Nat.{ℕ, ◌-◌, ◌≤◌}
+use Prim.Native.Nat.{ℕ}
 use native.Mathlib.Omega.{arith}
 use borrow.Author.Rules.{rules}
 use Rattle.pagecode.specs.Field.{Octets}
 use Rattle.pagecode.specs.Page.{content}
 use Rattle.pagecode.proofs.Content.{content-none, content-next}
 use Rattle.pagecode.proofs.page.page_content.Goals as goal
-use Rattle.pagecode.proofs.page.page_content.Invariants.{Inv}
 
 pub loop-i-init : goal.loop-i-init
 loop-i-init c =

@@ -1,12 +1,8 @@
 -- The loop's array is the content for the message's first i pages: a turn adds the next page times its entry.
-use mathlib.Core.Path.{◌≡◌, ap, ◌∙◌}
+use mathlib.Core.Path.{◌≡◌}
 use mathlib.Core.List.{List}
 use Prim.Native.Nat.{ℕ, ◌-◌, ◌≤◌}
-use native.Mathlib.Omega.{arith}
-use borrow.Author.Rules.{rules}
-use Rattle.pagecode.specs.Field.{Octets}
 use Rattle.pagecode.specs.Page.{content}
-use Rattle.pagecode.proofs.Content.{content-none, content-next}
 use Rattle.pagecode.proofs.page.page_content.Given as goal
 
 pub record Inv (m : List ℕ) (k p : ℕ) (c : List ℕ) (i : ℕ) : Type 0 where

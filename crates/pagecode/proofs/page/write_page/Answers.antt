@@ -1,14 +1,11 @@
 -- The loop copies the content behind the header's three octets. The buffer has 56 octets, so nothing of what it held is left.
 use mathlib.Core.Path.{◌≡◌, ap, ◌∙◌}
-use mathlib.Core.List.{List}
-use Prim.Native.Nat.{ℕ, ◌-◌, ◌≤◌}
 use native.Mathlib.Omega.{arith}
 use borrow.Author.Rules.{rules}
-use lib.ListN.{length, length-set}
+use lib.ListN.{length-set}
 use lib.Seq.{paste, paste-zero}
 use Rattle.pagecode.proofs.Content.{copy-next, headed, page-written}
 use Rattle.pagecode.proofs.page.write_page.Goals as goal
-use Rattle.pagecode.proofs.page.write_page.Invariants.{Inv}
 
 pub loop-j-init : goal.loop-j-init
 loop-j-init c = record { is = paste-zero _ 3 c.args.content; upto = search rules; long = simp length-set (search rules) }

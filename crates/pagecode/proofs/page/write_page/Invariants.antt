@@ -1,12 +1,9 @@
 -- The loop copies the content behind the header's three octets. The buffer has 56 octets, so nothing of what it held is left.
-use mathlib.Core.Path.{◌≡◌, ap, ◌∙◌}
+use mathlib.Core.Path.{◌≡◌}
 use mathlib.Core.List.{List}
 use Prim.Native.Nat.{ℕ, ◌-◌, ◌≤◌}
-use native.Mathlib.Omega.{arith}
-use borrow.Author.Rules.{rules}
-use lib.ListN.{length, length-set}
-use lib.Seq.{paste, paste-zero}
-use Rattle.pagecode.proofs.Content.{copy-next, headed, page-written}
+use lib.ListN.{length}
+use lib.Seq.{paste}
 use Rattle.pagecode.proofs.page.write_page.Given as goal
 
 pub record Inv (d s v : List ℕ) (j : ℕ) : Type 0 where

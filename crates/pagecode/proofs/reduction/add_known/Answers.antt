@@ -1,6 +1,6 @@
 -- Each turn adds one page.
 use mathlib.Core.Path.{◌≡◌, subst}
-use Prim.Native.Nat.{ℕ, ◌-◌, ◌≤◌}
+use Prim.Native.Nat.{ℕ}
 use native.Mathlib.Omega.{arith}
 use Rattle.pagecode.specs.Reduction.{KnownAdded}
 use Rattle.pagecode.proofs.Reducing.{known_start, known-turn}

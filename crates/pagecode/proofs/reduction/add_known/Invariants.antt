@@ -1,10 +1,6 @@
 -- Each turn adds one page.
-use mathlib.Core.Path.{◌≡◌, subst}
-use Prim.Native.Nat.{ℕ, ◌-◌, ◌≤◌}
-use native.Mathlib.Omega.{arith}
+use Prim.Native.Nat.{◌-◌, ◌≤◌}
 use Rattle.pagecode.specs.Reduction.{KnownAdded}
-use Rattle.pagecode.proofs.Reducing.{known_start, known-turn}
-use borrow.Author.Rules.{rules}
 use Rattle.pagecode.proofs.reduction.add_known.Given as goal
 
 abbrev pub invariant-loop-c : goal.invariant-loop-c

@@ -2,11 +2,11 @@
 -- A legal number is one of 1 to 255, which the row of a page asks for.
 use mathlib.Core.Path.{◌≡◌, refl, ap, ◌∙◌}
 use mathlib.Core.List.{List, []}
-use Prim.Native.Nat.{ℕ, ◌-◌, ◌≤◌}
+use Prim.Native.Nat.{ℕ, ◌-◌}
 use native.Mathlib.Omega.{arith}
 use lib.ListN.{length, get_or}
 use Rattle.pagecode.specs.Matrix.{matrix_row}
-use Rattle.pagecode.proofs.Stored.{Stored, store-next}
+use Rattle.pagecode.proofs.Stored.{store-next}
 use Rattle.pagecode.proofs.Rows.{legal-range}
 use borrow.Author.Rules.{rules}
 use Rattle.pagecode.proofs.reduction.parity_rows.Goals as goal

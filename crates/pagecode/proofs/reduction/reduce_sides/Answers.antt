@@ -1,8 +1,7 @@
 -- Each turn makes one right side and lays it.
 use mathlib.Core.Path.{◌≡◌, ◌∙◌, subst}
-use Prim.Native.Nat.{ℕ, ◌-◌, ◌≤◌}
+use Prim.Native.Nat.{ℕ}
 use native.Mathlib.Omega.{arith}
-use lib.ListN.{length}
 use Rattle.pagecode.specs.Reduction.{ReducedSides}
 use Rattle.pagecode.proofs.Reducing.{sides_turn}
 use borrow.Author.Rules.{rules}

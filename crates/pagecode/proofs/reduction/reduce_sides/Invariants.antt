@@ -1,11 +1,8 @@
 -- Each turn makes one right side and lays it.
-use mathlib.Core.Path.{◌≡◌, ◌∙◌, subst}
-use Prim.Native.Nat.{ℕ, ◌-◌, ◌≤◌}
-use native.Mathlib.Omega.{arith}
+use mathlib.Core.Path.{◌≡◌}
+use Prim.Native.Nat.{◌-◌, ◌≤◌}
 use lib.ListN.{length}
 use Rattle.pagecode.specs.Reduction.{ReducedSides}
-use Rattle.pagecode.proofs.Reducing.{sides_turn}
-use borrow.Author.Rules.{rules}
 use Rattle.pagecode.proofs.reduction.reduce_sides.Given as goal
 
 abbrev pub invariant-loop-a : goal.invariant-loop-a

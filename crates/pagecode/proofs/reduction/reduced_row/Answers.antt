@@ -1,9 +1,9 @@
 -- Each turn sets one entry.
 use mathlib.Core.Path.{◌≡◌, refl, ap, ◌∙◌}
-use Prim.Native.Nat.{ℕ, ◌-◌, ◌≤◌}
+use Prim.Native.Nat.{ℕ, ◌-◌}
 use native.Mathlib.Omega.{arith}
 use lib.ListN.{get_or}
-use Rattle.pagecode.proofs.Stored.{Stored, store-next}
+use Rattle.pagecode.proofs.Stored.{store-next}
 use borrow.Author.Rules.{rules}
 use Rattle.pagecode.proofs.reduction.reduced_row.Goals as goal
 

@@ -1,10 +1,7 @@
 -- Each turn sets one entry.
-use mathlib.Core.Path.{◌≡◌, refl, ap, ◌∙◌}
-use Prim.Native.Nat.{ℕ, ◌-◌, ◌≤◌}
-use native.Mathlib.Omega.{arith}
+use Prim.Native.Nat.{◌-◌, ◌≤◌}
 use lib.ListN.{get_or}
-use Rattle.pagecode.proofs.Stored.{Stored, store-next}
-use borrow.Author.Rules.{rules}
+use Rattle.pagecode.proofs.Stored.{Stored}
 use Rattle.pagecode.proofs.reduction.reduced_row.Given as goal
 
 abbrev pub invariant-loop-c : goal.invariant-loop-c

@@ -1,10 +1,7 @@
 -- Each turn makes one row.
-use mathlib.Core.Path.{◌≡◌, refl, ◌∙◌}
-use mathlib.Core.List.{[]}
-use Prim.Native.Nat.{ℕ, ◌-◌, ◌≤◌, ◌<◌}
+use mathlib.Core.Path.{refl, ◌∙◌}
 use native.Mathlib.Omega.{arith}
-use lib.ListN.{length, get_or, length-set}
-use Rattle.pagecode.specs.Reduction.{ReducedRow}
+use lib.ListN.{length-set}
 use Rattle.pagecode.proofs.Reducing.{rows_turn}
 use borrow.Author.Rules.{rules}
 use Rattle.pagecode.proofs.reduction.reduced_rows.Goals as goal

@@ -1,12 +1,9 @@
 -- Each turn makes one row.
-use mathlib.Core.Path.{◌≡◌, refl, ◌∙◌}
+use mathlib.Core.Path.{◌≡◌}
 use mathlib.Core.List.{[]}
 use Prim.Native.Nat.{ℕ, ◌-◌, ◌≤◌, ◌<◌}
-use native.Mathlib.Omega.{arith}
-use lib.ListN.{length, get_or, length-set}
+use lib.ListN.{length, get_or}
 use Rattle.pagecode.specs.Reduction.{ReducedRow}
-use Rattle.pagecode.proofs.Reducing.{rows_turn}
-use borrow.Author.Rules.{rules}
 use Rattle.pagecode.proofs.reduction.reduced_rows.Given as goal
 
 abbrev pub invariant-loop-a : goal.invariant-loop-a

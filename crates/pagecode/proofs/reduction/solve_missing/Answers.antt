@@ -9,7 +9,6 @@ use Rattle.pagecode.specs.Reduction.{Spread, Numbered}
 use Rattle.pagecode.proofs.LegalNumbers.{pages-of}
 use Rattle.pagecode.proofs.Noughts.{noughts-le, list-numbered, list-spread, others-numbered}
 use Rattle.pagecode.proofs.SolvedPages.{plain-spread, as_many, regular, completed, none-missing}
-use borrow.Author.Rules.{rules}
 use Rattle.pagecode.proofs.reduction.solve_missing.Goals as goal
 
 pub returns-then-r-eq0 : goal.returns-then-r-eq0

@@ -6,7 +6,6 @@ use native.Mathlib.Omega.{arith}
 use lib.ListN.{length}
 use Rattle.pagecode.proofs.LegalNumbers.{pages-of}
 use Rattle.pagecode.proofs.SolvedPages.{plain-spread, solution}
-use borrow.Author.Rules.{rules}
 use Rattle.pagecode.proofs.reduction.solve_pages.Goals as goal
 
 pub lay_pages-requires : goal.lay_pages-requires

@@ -2,8 +2,7 @@
 use mathlib.Core.Bool.{true}
 use mathlib.Core.Path.{◌≡◌, refl, sym, ◌∙◌}
 use lib.ListN.{length}
-use borrow.Author.Rules.{rules}
-use borrow.Author.Tests.{eq-eqb, ne_eqb, not-true, not-false}
+use borrow.Author.Tests.{eq-eqb, ne_eqb}
 use Rattle.pagecode.specs.Encode.{are_pages}
 use Rattle.pagecode.specs.Solve.{all_legal, different, solve_answer}
 use Rattle.pagecode.proofs.LegalNumbers.{few-pages, whole-pages}
@@ -13,17 +12,17 @@ pub returns-then-not-are_pages : goal.returns-then-not-are_pages
 unfolding solve_answer
 returns-then-not-are_pages c =
     record {
-  answered = simp (sym c.are_pages.ensures ∙ c.if-not-are_pages.true);
-  buffer = refl;
-}
+      answered = simp (sym c.are_pages.ensures ∙ c.if-not-are_pages.true);
+      buffer = refl;
+    }
 
 pub returns-then-out-ne-MESSAGE_OCTETS : goal.returns-then-out-ne-MESSAGE_OCTETS
 unfolding solve_answer
 returns-then-out-ne-MESSAGE_OCTETS c =
     record {
-  answered = simp (sym c.are_pages.ensures ∙ c.if-not-are_pages.false, ne_eqb _ _ c.if-out-ne-MESSAGE_OCTETS.true);
-  buffer = refl;
-}
+      answered = simp (sym c.are_pages.ensures ∙ c.if-not-are_pages.false, ne_eqb _ _ c.if-out-ne-MESSAGE_OCTETS.true);
+      buffer = refl;
+    }
 
 pub returns-then-not-all_legal : goal.returns-then-not-all_legal
 unfolding solve_answer

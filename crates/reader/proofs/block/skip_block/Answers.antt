@@ -5,7 +5,6 @@ use native.Mathlib.Omega.{arith}
 use mathlib.Core.List.{[], ◌∷◌}
 use mathlib.Core.Path.{◌≡◌, sym, ◌∙◌}
 use lib.ListN.{length}
-use borrow.Author.Rules.{rules}
 use Rattle.bits.specs.Bits.{bits_of}
 use Rattle.bits.proofs.Octets.{length-bits_of}
 use Rattle.mt1.specs.Parse.{field, times, for_each}

@@ -1,6 +1,5 @@
 -- The field is there or SHORT, and the seconds of its index say whether it is an interval.
 use mathlib.Core.Path.{sym, ap, ◌∙◌}
-use borrow.Author.Rules.{rules}
 use Rattle.bits.specs.Bits.{bits_of}
 use Rattle.mt1.specs.Parse.{field}
 use Rattle.reader.specs.declared.field.Step.TheVariants as step

@@ -1,12 +1,11 @@
 -- A turn passes over one item, and the rest of the row ends as the whole row does; an item that is there ends within the octets.
-use Prim.Native.Nat.{◌≤◌, ◌-◌}
+use Prim.Native.Nat.{◌-◌}
 use native.Mathlib.Omega.{arith}
 use mathlib.Core.Path.{◌≡◌, sym, ◌∙◌}
-use borrow.Author.Rules.{rules}
 use Rattle.bits.specs.Bits.{bits_of}
 use Rattle.bits.proofs.Octets.{length-bits_of}
-use Rattle.mt1.specs.Parse.{field, times, for_each}
-use Rattle.reader.specs.Steps.{step_of, widths_of}
+use Rattle.mt1.specs.Parse.{field, for_each}
+use Rattle.reader.specs.Steps.{widths_of}
 use Rattle.reader.proofs.Skipping.{times_none, turn, item-end}
 use Rattle.reader.proofs.block.skip_items.Goals as goal
 

@@ -3,8 +3,6 @@ use mathlib.Core.Bool.{true, false}
 use mathlib.Core.Path.{refl, sym, ◌∙◌}
 use native.Mathlib.Nat.{add-zero}
 use native.Mathlib.Omega.{arith}
-use borrow.Author.Rules.{rules}
-use borrow.Author.Tests.{not-true, not-false}
 use Rattle.mt1.specs.Records.{cell_record}
 use Rattle.mt1.proofs.Counts.{length-cell}
 use Rattle.reader.proofs.Emitting.{wrote_none, wrote_record}

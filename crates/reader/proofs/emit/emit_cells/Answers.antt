@@ -1,13 +1,10 @@
 -- After g turns the cells of the first g signals are written.
 use mathlib.Core.Path.{◌≡◌, refl}
-use Prim.Native.Nat.{◌*◌, ◌-◌, ◌≤◌, ◌<◌}
+use Prim.Native.Nat.{◌<◌}
 use native.Mathlib.Omega.{arith}
-use lib.ListN.{length}
 use borrow.Author.Rules.{rules}
-use Rattle.mt1.specs.Message.{System, Message, count, count_before, cells_of}
-use Rattle.mt1.specs.Records.{build, cell_records}
-use Rattle.reader.specs.Recording.{Emits, RowOf, InRow}
-use Rattle.reader.proofs.Emitting.{Wrote, wrote-start, wrote-next, wrote_le, cells-le}
+use Rattle.mt1.specs.Records.{cell_records}
+use Rattle.reader.proofs.Emitting.{wrote-start, wrote-next, wrote_le, cells-le}
 use Rattle.reader.proofs.Turns.{row-start}
 use Rattle.reader.proofs.emit.emit_cells.Goals as goal
 

@@ -2,7 +2,6 @@
 use mathlib.Core.Path.{sym, ◌∙◌}
 use native.Mathlib.Omega.{arith}
 use borrow.Author.Rules.{rules}
-use borrow.Author.Tests.{not-true, not-false}
 use Rattle.mt1.specs.Records.{satellite_record}
 use Rattle.mt1.proofs.Counts.{length-satellite}
 use Rattle.reader.proofs.Emitting.{wrote_record}

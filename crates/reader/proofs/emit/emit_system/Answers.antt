@@ -1,14 +1,12 @@
 -- The system's record first; after i turns the satellites of the first i indices are written behind it.
 use mathlib.Core.Path.{◌≡◌, refl}
-use Prim.Native.Nat.{◌+◌, ◌-◌, ◌≤◌, ◌<◌}
+use Prim.Native.Nat.{◌+◌, ◌<◌}
 use native.Mathlib.Omega.{arith}
 use lib.ListN.{length}
 use borrow.Author.Rules.{rules}
-use Rattle.mt1.specs.Message.{System, Message}
-use Rattle.mt1.specs.Records.{build, system_record, satellite_records}
-use Rattle.reader.specs.Recording.{Emits, Reached}
+use Rattle.mt1.specs.Records.{system_record, satellite_records}
 use Rattle.mt1.proofs.Counts.{length-system}
-use Rattle.reader.proofs.Emitting.{Wrote, wrote-start, wrote-next, wrote_le, wrote_record, wrote-system, satellite-le}
+use Rattle.reader.proofs.Emitting.{wrote-start, wrote-next, wrote_le, wrote_record, wrote-system, satellite-le}
 use Rattle.reader.proofs.Turns.{system-start}
 use Rattle.reader.proofs.emit.emit_system.Goals as goal
 

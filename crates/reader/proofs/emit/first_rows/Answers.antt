@@ -1,5 +1,4 @@
 -- Each place as the callees give it.
-use borrow.Author.Rules.{rules}
 use Rattle.reader.proofs.emit.first_rows.Goals as goal
 
 pub returns : goal.returns

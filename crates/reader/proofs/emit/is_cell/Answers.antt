@@ -1,6 +1,5 @@
 -- Where the flag is 1 the bit of the cell mask tells; else all cells are there.
 use mathlib.Core.Path.{◌∙◌}
-use borrow.Author.Rules.{rules}
 use borrow.Author.Tests.{eq-eqb, ne_eqb}
 use Rattle.reader.proofs.Masked.{cell-bit, cell-all}
 use Rattle.reader.proofs.emit.is_cell.Goals as goal

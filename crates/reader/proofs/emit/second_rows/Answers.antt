@@ -1,6 +1,5 @@
 -- Each place as the callees give it; a satellite's orbit has at most 47 bits.
 use native.Mathlib.Omega.{arith}
-use borrow.Author.Rules.{rules}
 use Rattle.reader.proofs.RowFields.{orbit-room}
 use Rattle.mt1.proofs.Blocks.{iod-le}
 use Rattle.reader.proofs.emit.second_rows.Goals as goal

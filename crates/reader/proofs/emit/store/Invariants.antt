@@ -1,10 +1,8 @@
 -- After j turns the first j octets of the record are laid.
-use mathlib.Core.Path.{◌≡◌, refl, ◌∙◌}
+use mathlib.Core.Path.{◌≡◌}
 use Prim.Native.Nat.{◌-◌, ◌≤◌}
-use lib.ListN.{length, take, length-set}
-use borrow.Author.Rules.{rules}
+use lib.ListN.{length, take}
 use Rattle.lists.specs.Lists.{laid}
-use Rattle.lists.proofs.Laid.{laid_none, laid_next, laid-all}
 use Rattle.reader.proofs.emit.store.Given as goal
 
 abbrev pub invariant-loop-j : goal.invariant-loop-j

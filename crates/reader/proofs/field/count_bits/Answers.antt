@@ -1,8 +1,7 @@
 -- After the bits that are passed, c is how many of them are 1.
 use mathlib.Core.Bool.{true, false}
-use mathlib.Core.Logic.{⊎_elim}
 use mathlib.Core.Path.{◌≡◌, refl, sym, ap, ◌∙◌}
-use Prim.Native.Nat.{ℕ, ◌+◌, ◌-◌, ◌≤◌}
+use Prim.Native.Nat.{ℕ, ◌+◌, ◌≤◌}
 use native.Mathlib.Nat.{add-zero}
 use native.Mathlib.Omega.{arith}
 use lib.ListN.{take, drop}
@@ -29,7 +28,7 @@ loop-k-preserved c =
     let more = count-more c.loop-k.k a.at (bits_of a.octets.now) c.loop-k.invariant.1 in (
       few,
       elim c.if-bit_at.branch [
-        then-bit_at w ↦ more true (sym w.if-bit_at.true ∙ c.bit_at.ensures) w.c-is
+        | then-bit_at w ↦ more true (sym w.if-bit_at.true ∙ c.bit_at.ensures) w.c-is
         | else-bit_at w ↦ more false (sym w.if-bit_at.false ∙ c.bit_at.ensures) (w.c-is ∙ sym (add-zero c.loop-k.c))
       ],
     )

@@ -1,15 +1,9 @@
 -- After the bits that are passed, c is how many of them are 1.
-use mathlib.Core.Bool.{true, false}
-use mathlib.Core.Logic.{⊎_elim}
-use mathlib.Core.Path.{◌≡◌, refl, sym, ap, ◌∙◌}
-use Prim.Native.Nat.{ℕ, ◌+◌, ◌-◌, ◌≤◌}
-use native.Mathlib.Nat.{add-zero}
-use native.Mathlib.Omega.{arith}
+use mathlib.Core.Path.{◌≡◌}
+use Prim.Native.Nat.{◌-◌, ◌≤◌}
 use lib.ListN.{take, drop}
-use borrow.Author.Rules.{rules}
 use Rattle.bits.specs.Bits.{bits_of}
 use Rattle.mt1.specs.Message.{count}
-use Rattle.reader.proofs.Fields.{count-more, count-few}
 use Rattle.reader.proofs.field.count_bits.Given as goal
 
 abbrev pub invariant-loop-k : goal.invariant-loop-k

@@ -1,6 +1,5 @@
 -- Bits that are there are the number; else the field is SHORT.
 use mathlib.Core.Path.{sym, ap, ◌∙◌}
-use borrow.Author.Rules.{rules}
 use Rattle.bits.specs.Bits.{bits_of}
 use Rattle.reader.specs.Steps.{field_answer}
 use Rattle.reader.specs.declared.field.Field.TheVariants.{Got, Refused}

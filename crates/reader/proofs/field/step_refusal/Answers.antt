@@ -1,6 +1,5 @@
 -- Each arm answers for its case.
 use mathlib.Core.Path.{sym, ap, ◌∙◌}
-use borrow.Author.Rules.{rules}
 use Rattle.reader.specs.Steps.{step_refusal}
 use Rattle.reader.proofs.field.step_refusal.Goals as goal
 

@@ -1,6 +1,5 @@
 -- The reserved bits are there, whatever they are, or SHORT.
 use mathlib.Core.Path.{sym, ap}
-use borrow.Author.Rules.{rules}
 use Rattle.bits.specs.Bits.{bits_of}
 use Rattle.mt1.specs.Parse.{field}
 use Rattle.reader.specs.Steps.{mask_end}

@@ -1,6 +1,5 @@
 -- The exits in the order of the fields: the cell mask, the navigation message. The cells are counted, or all.
 use mathlib.Core.Bool.{Bool, true, cond}
-use mathlib.Core.Logic.{⊎_elim}
 use mathlib.Core.Path.{◌≡◌, sym, ap, ◌∙◌}
 use Prim.Native.Nat.{ℕ, ◌+◌, ◌*◌, ◌≤◌}
 use native.Mathlib.Nat.{mul-le-mul}
@@ -79,7 +78,7 @@ returns c =
     let m = c.in-At.at in
     let chosen : Bool → ℕ = λ t. cond t (count (take c.cell_bits-n.result (drop (a.place + 57) bs))) (a.satellites * a.signals) in
     let cells : c.if-flag-eq1.cells ≡ chosen (eqb a.flag 1) = elim c.if-flag-eq1.branch [
-      then-flag-eq1 w ↦ w.cells-is ∙ w.count_bits-cells.ensures ∙ sym (ap chosen (eq-eqb a.flag 1 w.if-flag-eq1.true))
+      | then-flag-eq1 w ↦ w.cells-is ∙ w.count_bits-cells.ensures ∙ sym (ap chosen (eq-eqb a.flag 1 w.if-flag-eq1.true))
       | else-flag-eq1 w ↦ w.cells-is ∙ sym (ap chosen (ne_eqb a.flag 1 w.if-flag-eq1.false))
     ] in
     system-made a.id a.flag a.place bs x y s g c.cell_bits-n.ensures (there (goal.at.returns c).In-At)

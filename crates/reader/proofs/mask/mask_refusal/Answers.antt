@@ -1,6 +1,5 @@
 -- Each arm answers for its case.
 use mathlib.Core.Path.{sym, ap, ◌∙◌}
-use borrow.Author.Rules.{rules}
 use Rattle.reader.specs.Steps.{mask_refusal}
 use Rattle.reader.proofs.mask.mask_refusal.Goals as goal
 

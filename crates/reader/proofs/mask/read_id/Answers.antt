@@ -1,10 +1,8 @@
 -- The field is read, then judged by the code's tests.
 use mathlib.Core.List.{[], ◌∷◌}
-use mathlib.Core.Logic.{◌⊎◌, inl, inr, ⊎_elim}
+use mathlib.Core.Logic.{◌⊎◌, inl, inr}
 use mathlib.Core.Path.{◌≡◌, sym, ap, ◌∙◌}
 use Prim.Native.Nat.{◌+◌}
-use borrow.Author.Rules.{rules}
-use borrow.Author.Tests.{eqb-true, eqb-false, not-true, not-false}
 use Rattle.bits.specs.Bits.{bits_of}
 use Rattle.mt1.specs.Parse.{got, field, wrong_id}
 use Rattle.reader.specs.declared.field.Field.TheVariants.{Refused}
@@ -25,7 +23,7 @@ one_of : (j : Joined-else-id-first) → let a = j.args in (j.in-Got.id ≡ a.fir
 one_of j =
     let a = j.args in
     elim j.else-id-first.branch [
-      else-id-first-via-then-id-first+else-id-second w ↦ inr w.if-id-second.false
+      | else-id-first-via-then-id-first+else-id-second w ↦ inr w.if-id-second.false
       | else-id-first-via-else-id-first w ↦ inl w.if-id-first.false
     ]
 

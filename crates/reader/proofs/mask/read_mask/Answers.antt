@@ -1,11 +1,10 @@
 -- The exits in order: how many systems, the first one's GNSS ID, the first system; then the end of the mask, or its second system.
 use mathlib.Core.List.{[], ◌∷◌}
-use mathlib.Core.Logic.{inl, inr, ⊎_elim}
+use mathlib.Core.Logic.{inl, inr}
 use mathlib.Core.Path.{◌≡◌, sym, ap, ap₂, ◌∙◌}
 use Prim.Native.Nat.{◌+◌, ◌≤◌}
 use native.Mathlib.Omega.{arith}
 use borrow.Author.Rules.{rules}
-use borrow.Author.Tests.{ltb-true}
 use Rattle.bits.specs.Bits.{bits_of}
 use Rattle.mt1.specs.Parse.{got, field, judged, wrong_id}
 use Rattle.mt1.specs.Mt1.{known, system}
@@ -59,7 +58,7 @@ returns-then-n-lt1 c =
     ap Refused c.refuse.ensures
     ∙ sym (ap (mask_answer a.at) (count-wrong a.at (bits_of a.octets.now) (count-there (goal.at.returns-then-n-lt1 c).In-Got)
     (elim c.then-n-lt1.branch [
-      then-n-lt1-via-then-n-lt1 w ↦ inl w.if-n-lt1.true
+      | then-n-lt1-via-then-n-lt1 w ↦ inl w.if-n-lt1.true
       | then-n-lt1-via-else-n-lt1+then-n-gt2 w ↦ inr w.if-n-gt2.true
     ])))
 

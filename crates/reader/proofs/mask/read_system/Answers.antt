@@ -4,7 +4,6 @@ use mathlib.Core.Path.{◌≡◌, sym, ap, subst⁻¹}
 use Prim.Native.Nat.{ℕ, ◌+◌, ◌≤◌}
 use native.Mathlib.Omega.{arith}
 use lib.ListN.{take, drop}
-use borrow.Author.Rules.{rules}
 use Rattle.bits.specs.Bits.{bits_of, fits_in}
 use Rattle.mt1.specs.Parse.{Outcome, raw, field}
 use Rattle.mt1.specs.Message.{System}

@@ -3,7 +3,6 @@ use mathlib.Core.List.{[], ◌∷◌}
 use mathlib.Core.Path.{◌≡◌, sym, ap, ◌∙◌}
 use Prim.Native.Nat.{◌+◌}
 use native.Mathlib.Omega.{arith}
-use borrow.Author.Rules.{rules}
 use Rattle.bits.specs.Bits.{bits_of}
 use Rattle.mt1.specs.Parse.{got, field, judged, wrong_id}
 use Rattle.mt1.specs.Mt1.{known, system}

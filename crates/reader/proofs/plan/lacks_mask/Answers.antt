@@ -1,9 +1,8 @@
 -- Another ID lends nothing; else the mask is read, or is not.
 use native.Mathlib.Omega.{arith}
 use mathlib.Core.Path.{sym, ap}
-use borrow.Author.Rules.{rules}
 use Rattle.bits.specs.Bits.{bits_of}
-use Rattle.mt1.specs.Mt1.{mask, Lent, is_none}
+use Rattle.mt1.specs.Mt1.{mask, is_none}
 use Rattle.reader.proofs.Headers.{found, mask-unread}
 use Rattle.reader.proofs.Messages.{lent_other, lent-unclean, lent-clean}
 use Rattle.reader.proofs.plan.lacks_mask.Goals as goal

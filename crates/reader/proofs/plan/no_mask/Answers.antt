@@ -1,6 +1,5 @@
 -- A mask of no systems has no first and no second.
 use mathlib.Core.Path.{ap}
-use borrow.Author.Rules.{rules}
 use Rattle.reader.specs.declared.mask.SystemPlan.{SystemPlan}
 use Rattle.reader.specs.Steps.{mask_plan}
 use Rattle.mt1.specs.Records.{at}

@@ -3,12 +3,11 @@
 -- the bits of the message
 use Prim.Native.Nat.{ℕ}
 use native.Mathlib.Omega.{arith}
-use mathlib.Core.Bool.{Bool, false}
+use mathlib.Core.Bool.{false}
 use mathlib.Core.List.{List}
 use mathlib.Core.Option.{Option}
 use mathlib.Core.Path.{sym, subst, ◌∙◌}
 use lib.ListN.{get_or}
-use borrow.Author.Rules.{rules}
 use Rattle.bits.specs.Bits.{bits_of}
 use Rattle.bits.proofs.Octets.{length-bits_of}
 use Rattle.mt1.specs.Message.{System, Orbit, Clocks, Subset, Block}

@@ -2,10 +2,9 @@
 use native.Mathlib.Omega.{arith}
 use mathlib.Core.Option.{none}
 use mathlib.Core.Path.{sym, ◌∙◌}
-use borrow.Author.Rules.{rules}
 use Rattle.bits.specs.Bits.{bits_of}
 use Rattle.mt1.specs.Message.{Mask}
-use Rattle.mt1.specs.Mt1.{mask, Lent}
+use Rattle.mt1.specs.Mt1.{mask}
 use Rattle.reader.proofs.Headers.{header_at, Found, found, mask-unread}
 use Rattle.reader.proofs.Messages.{lent_other, lent-unclean, lent-clean, lent-missing, lent-read}
 use Rattle.reader.proofs.plan.plan_lent.Goals as goal

@@ -1,17 +1,15 @@
 -- The time of hour is judged first; then the mask flag tells whose mask is used, and the blocks behind it are planned by that mask.
 use Prim.Native.Nat.{◌≤◌}
 use native.Mathlib.Omega.{arith}
-use mathlib.Core.List.{List, []}
-use mathlib.Core.Bool.{Bool}
+use mathlib.Core.List.{[]}
 use mathlib.Core.Option.{none, some}
 use mathlib.Core.Path.{◌≡◌, sym, ap, ◌∙◌}
 use lib.ListN.{length}
-use borrow.Author.Rules.{rules}
 use Rattle.bits.specs.Bits.{bits_of}
 use Rattle.bits.proofs.Octets.{length-bits_of}
 use Rattle.mt1.specs.Parse.{got, bad}
 use Rattle.mt1.specs.Message.{Header, Mask}
-use Rattle.mt1.specs.Mt1.{header, mask, Lent}
+use Rattle.mt1.specs.Mt1.{header, mask}
 use Rattle.reader.proofs.Headers.{header-bad, header-got, header_at, Found, found, mask-refused}
 use Rattle.reader.proofs.Messages.{message-bad, own-bad, own_read, none_made, none_read, lent-message}
 use Rattle.reader.proofs.plan.plan_message.Goals as goal

@@ -1,7 +1,5 @@
 -- Where its flag is 0 nothing is read; else the block is passed over by the plan's numbers.
 use mathlib.Core.Path.{sym, ◌∙◌}
-use borrow.Author.Rules.{rules}
-use borrow.Author.Tests.{not-true, not-false}
 use Rattle.bits.specs.Bits.{bits_of}
 use Rattle.mt1.specs.Mt1.{block, codes}
 use Rattle.reader.proofs.BlockRows.{codes-rows}

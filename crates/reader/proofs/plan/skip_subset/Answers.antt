@@ -1,8 +1,6 @@
 -- Where its flag is 0 nothing is read; else it is the block.
 use mathlib.Core.Bool.{Bool}
 use mathlib.Core.Path.{refl, sym, subst, ◌∙◌}
-use borrow.Author.Rules.{rules}
-use borrow.Author.Tests.{not-true, not-false}
 use Rattle.bits.specs.Bits.{bits_of}
 use Rattle.reader.specs.declared.subset.SubsetRead.TheVariants.{Got}
 use Rattle.reader.specs.Steps.{SubsetReadIf}

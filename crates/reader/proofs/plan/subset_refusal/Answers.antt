@@ -1,6 +1,5 @@
 -- The refusal that it has, or one that no caller meets.
 use mathlib.Core.Path.{sym, ap, ◌∙◌}
-use borrow.Author.Rules.{rules}
 use Rattle.reader.specs.Steps.{subset_refusal}
 use Rattle.reader.proofs.plan.subset_refusal.Goals as goal
 

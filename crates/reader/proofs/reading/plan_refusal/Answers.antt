@@ -1,6 +1,5 @@
 -- The refusal that it has, or one that no caller meets.
 use mathlib.Core.Path.{sym, ap, ◌∙◌}
-use borrow.Author.Rules.{rules}
 use Rattle.reader.specs.Steps.{plan_refusal}
 use Rattle.reader.proofs.reading.plan_refusal.Goals as goal
 

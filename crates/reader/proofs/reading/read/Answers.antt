@@ -1,11 +1,6 @@
 -- Octets that are not pages are refused at once; of pages, what is read is what `read_octets` reads.
-use Prim.Native.Nat.{◌%◌}
 use native.Mathlib.Omega.{arith}
-use mathlib.Core.Logic.{⊎_elim}
-use lib.Dec.{eqb}
 use lib.ListN.{length}
-use borrow.Author.Rules.{rules}
-use borrow.Author.Tests.{ltb-true, ltb-false, eqb-true, eqb-false, not-true, not-false}
 use Rattle.reader.specs.Reader.{Call}
 use Rattle.reader.proofs.Answers.{not-pages, bad-pages, reads-pages}
 use Rattle.reader.proofs.reading.read.Goals as goal
@@ -18,7 +13,7 @@ returns-then-n-lt53 c =
     let n = length c.args.message.now in
     bad-pages call c.args.records.now
     (not-pages n λ x y z. elim c.then-n-lt53.branch [
-      then-n-lt53-via-then-n-lt53 w ↦ omega arith
+      | then-n-lt53-via-then-n-lt53 w ↦ omega arith
       | then-n-lt53-via-else-n-lt53+then-n-gt1696 w ↦ omega arith
       | then-n-lt53-via-else-n-lt53+else-n-gt1696+then-n-ne0 w ↦ w.if-n-ne0.true z
     ]) c.refuse.ensures

@@ -1,11 +1,8 @@
 -- The checks are those of the definition, in its order; a message that is planned is one that is read, and its records are written.
 use Prim.Native.Nat.{◌≤◌}
 use native.Mathlib.Omega.{arith}
-use mathlib.Core.Logic.{⊎_elim}
 use mathlib.Core.Path.{subst}
 use lib.ListN.{length}
-use borrow.Author.Rules.{rules}
-use borrow.Author.Tests.{ltb-true, ltb-false}
 use Rattle.reader.specs.Reader.{Call}
 use Rattle.reader.specs.declared.plan.PlanRead.TheVariants.{Got}
 use Rattle.reader.specs.Steps.{MessageRead}

@@ -1,7 +1,6 @@
 -- The header stands first, its fields one behind another, and each block begins with its interval.
 use native.Mathlib.Omega.{arith}
 use mathlib.Core.Path.{◌∙◌}
-use borrow.Author.Rules.{rules}
 use Rattle.bits.specs.Bits.{bits_of}
 use Rattle.mt1.specs.Message.{has_orbit, has_clock, has_subset, has_code, has_phase}
 use Rattle.mt1.specs.Encode.{orbits_bits, clocks_bits, subsets_bits, codes_bits, phases_bits}

@@ -1,7 +1,6 @@
 -- Eight bits are an octet.
 use Prim.Native.Nat.{◌+◌}
 use native.Mathlib.Omega.{arith}
-use borrow.Author.Rules.{rules}
 use Rattle.bits.specs.Bits.{bits_of}
 use Rattle.reader.proofs.RowValues.{read-lt}
 use Rattle.reader.proofs.record.mask_octet.Goals as goal

@@ -1,6 +1,5 @@
 -- The ID and the flag are octets, the multipliers stand where the rows say, and the masks are read an octet at a time.
 use mathlib.Core.Path.{refl, ◌∙◌}
-use borrow.Author.Rules.{rules}
 use Rattle.bits.specs.Bits.{bits_of}
 use Rattle.mt1.specs.Message.{count}
 use Rattle.mt1.specs.Records.{part, multiplier_of, subset_of}

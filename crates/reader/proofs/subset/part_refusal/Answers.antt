@@ -1,6 +1,5 @@
 -- Each arm answers for its case.
 use mathlib.Core.Path.{sym, ap, ◌∙◌}
-use borrow.Author.Rules.{rules}
 use Rattle.reader.specs.Steps.{part_refusal}
 use Rattle.reader.proofs.subset.part_refusal.Goals as goal
 

@@ -3,14 +3,11 @@
 use Prim.Native.Nat.{ℕ, ◌+◌, ◌≤◌}
 use native.Mathlib.Omega.{arith}
 use mathlib.Core.List.{List, [], ◌∷◌}
-use mathlib.Core.Option.{Option}
 use mathlib.Core.Path.{◌≡◌, sym, ◌∙◌}
 use lib.Dec.{eqb}
 use lib.ListN.{length}
-use borrow.Author.Rules.{rules}
 use Rattle.bits.specs.Bits.{bits_of}
 use Rattle.bits.proofs.Octets.{length-bits_of}
-use Rattle.refusal.specs.declared.Refusal.{Refusal}
 use Rattle.mt1.specs.Parse.{got, judged, wrong_id}
 use Rattle.mt1.specs.Message.{System, count}
 use Rattle.mt1.specs.Mt1.{satellites_of, subset_system}

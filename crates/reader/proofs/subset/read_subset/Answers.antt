@@ -1,10 +1,9 @@
 -- Interval and count, each behind the one before it, then the parts: the first that refuses is the block's refusal.
 use Prim.Native.Nat.{◌+◌, ◌≤◌}
 use native.Mathlib.Omega.{arith}
-use mathlib.Core.Logic.{inl, inr, ⊎_elim}
+use mathlib.Core.Logic.{inl, inr}
 use mathlib.Core.Path.{◌≡◌, sym, ap, ◌∙◌}
 use lib.ListN.{length}
-use borrow.Author.Tests.{ltb-true}
 use borrow.Author.Rules.{rules}
 use Rattle.bits.specs.Bits.{bits_of}
 use Rattle.bits.proofs.Octets.{length-bits_of}
@@ -59,7 +58,7 @@ returns-then-n-lt1 c ss place o =
     let a = c.args in
     count-wrong (bits_of a.octets.now) o a.at (interval-there (goal.at.returns-then-n-lt1 c).In-At) (count-there (goal.at.returns-then-n-lt1 c).In-Got)
     (elim c.then-n-lt1.branch [
-      then-n-lt1-via-then-n-lt1 w ↦ inl w.if-n-lt1.true
+      | then-n-lt1-via-then-n-lt1 w ↦ inl w.if-n-lt1.true
       | then-n-lt1-via-else-n-lt1+then-n-mask w ↦ inr w.if-n-mask.true
     ])
     ∙ ap bad (sym c.refuse.ensures)

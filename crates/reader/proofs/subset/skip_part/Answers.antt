@@ -3,7 +3,6 @@
 use Prim.Native.Nat.{◌≤◌}
 use native.Mathlib.Omega.{arith}
 use mathlib.Core.Path.{◌≡◌, sym, ◌∙◌}
-use borrow.Author.Rules.{rules}
 use Rattle.bits.specs.Bits.{bits_of}
 use Rattle.bits.proofs.Octets.{length-bits_of}
 use Rattle.mt1.specs.Parse.{raw}

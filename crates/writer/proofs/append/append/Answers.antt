@@ -1,6 +1,5 @@
 -- There is room for the number, so `put` puts it.
 use native.Mathlib.Omega.{arith}
-use borrow.Author.Rules.{rules}
 use Rattle.writer.proofs.Appending.{appends-put}
 use Rattle.writer.proofs.append.append.Goals as goal
 

@@ -1,6 +1,5 @@
 -- The flags are the six low bits of octet 1.
 use mathlib.Core.Path.{◌∙◌}
-use borrow.Author.Rules.{rules}
 use Rattle.writer.proofs.RecordFields.{flag_at}
 use Rattle.writer.proofs.append.has_flag.Goals as goal
 

@@ -1,7 +1,6 @@
 -- Each octet is below 256, so the number fits.
 use Prim.Native.Nat.{◌+◌}
 use native.Mathlib.Omega.{arith}
-use borrow.Author.Rules.{rules}
 use Rattle.writer.proofs.append.pair_at.Goals as goal
 
 pub overflow_mul-result : goal.overflow_mul-result

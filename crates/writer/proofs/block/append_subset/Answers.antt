@@ -6,7 +6,6 @@ use mathlib.Core.List.{◌++◌}
 use mathlib.Core.Path.{◌≡◌, sym, ap, ◌∙◌}
 use Prim.Native.Nat.{◌+◌}
 use borrow.Author.Rules.{rules}
-use borrow.Author.Tests.{not-true, not-false}
 use lib.ListN.{get_or}
 use Rattle.bits.specs.Bits.{num, bits}
 use Rattle.bits.proofs.Values.{num-few}

@@ -1,5 +1,4 @@
 -- The tests are those of the definition, in its order.
-use borrow.Author.Rules.{rules}
 use Rattle.writer.proofs.header.intervals_fit.Goals as goal
 
 pub returns : goal.returns

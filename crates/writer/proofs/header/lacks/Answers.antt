@@ -1,7 +1,5 @@
 -- The tests are those of the definition, in its order.
 use mathlib.Core.Path.{refl}
-use native.Mathlib.Omega.{arith}
-use borrow.Author.Rules.{rules}
 use Rattle.writer.specs.Writer.{header_of, lacks_mask}
 use Rattle.writer.proofs.header.lacks.Goals as goal
 

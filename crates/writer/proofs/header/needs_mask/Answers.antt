@@ -1,5 +1,4 @@
 -- The flags are those of the definition, in its order.
-use borrow.Author.Rules.{rules}
 use Rattle.writer.proofs.header.needs_mask.Goals as goal
 
 pub returns : goal.returns

@@ -1,6 +1,5 @@
 -- The tests are those of the definition, in its order.
 use mathlib.Core.Path.{refl}
-use borrow.Author.Rules.{rules}
 use Rattle.writer.proofs.header.unnamed_zero.Goals as goal
 
 pub returns : goal.returns

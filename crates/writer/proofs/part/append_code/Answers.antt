@@ -1,5 +1,4 @@
 -- Of a record of another kind nothing is taken.
-use borrow.Author.Rules.{rules}
 use Rattle.writer.specs.declared.part.Part.TheVariants.{Code}
 use Rattle.writer.proofs.Appending.{appends-none}
 use Rattle.writer.proofs.RecordFields.{part_none, code-bits}

@@ -2,7 +2,6 @@
 use native.Mathlib.Omega.{arith}
 use mathlib.Core.Path.{◌∙◌}
 use lib.ListN.{get_or}
-use borrow.Author.Rules.{rules}
 use Rattle.writer.specs.declared.part.Part.TheVariants.{Orbit}
 use Rattle.bits.proofs.Values.{length-bits}
 use Rattle.writer.proofs.Appending.{appends-none, appends-join}

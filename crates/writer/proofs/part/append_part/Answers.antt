@@ -1,7 +1,6 @@
 -- Each part by its own function.
 use native.Mathlib.Omega.{arith}
 use mathlib.Core.Path.{ap}
-use borrow.Author.Rules.{rules}
 use Rattle.writer.specs.Rendering.{weight}
 use Rattle.writer.proofs.part.append_part.Goals as goal
 

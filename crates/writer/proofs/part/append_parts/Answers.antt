@@ -1,12 +1,11 @@
 -- After k turns the bits of the first k records are appended, of each at most the part's weight.
-use Prim.Native.Nat.{◌*◌, ◌/◌, ◌-◌, ◌≤◌, ◌<◌}
+use Prim.Native.Nat.{◌*◌, ◌/◌, ◌<◌}
 use native.Mathlib.Omega.{arith}
 use mathlib.Core.Path.{◌∙◌}
 use lib.ListN.{length, drop}
 use borrow.Author.Rules.{rules}
-use Rattle.writer.specs.Rendering.{gathered, weight}
 use Rattle.writer.proofs.Weights.{part-weight}
-use Rattle.writer.proofs.Turns.{Begun, begun-start, begun_more, begun_all, begun-le, left, left-first, left-next, left-last, weight-next, weight-room}
+use Rattle.writer.proofs.Turns.{begun-start, begun_more, begun_all, begun-le, left-first, left-next, left-last, weight-next, weight-room}
 use Rattle.writer.proofs.part.append_parts.Goals as goal
 
 pub loop-k-init : goal.loop-k-init

@@ -1,12 +1,8 @@
 -- After k turns the bits of the first k records are appended, of each at most the part's weight.
-use Prim.Native.Nat.{◌*◌, ◌/◌, ◌-◌, ◌≤◌, ◌<◌}
-use native.Mathlib.Omega.{arith}
-use mathlib.Core.Path.{◌∙◌}
-use lib.ListN.{length, drop}
-use borrow.Author.Rules.{rules}
+use Prim.Native.Nat.{◌*◌, ◌/◌, ◌-◌, ◌≤◌}
+use lib.ListN.{length}
 use Rattle.writer.specs.Rendering.{gathered, weight}
-use Rattle.writer.proofs.Weights.{part-weight}
-use Rattle.writer.proofs.Turns.{Begun, begun-start, begun_more, begun_all, begun-le, left, left-first, left-next, left-last, weight-next, weight-room}
+use Rattle.writer.proofs.Turns.{Begun, left}
 use Rattle.writer.proofs.part.append_parts.Given as goal
 
 abbrev pub invariant-loop-k : goal.invariant-loop-k

@@ -1,8 +1,6 @@
 -- Of a record of another kind nothing is taken; else the two fields stand one behind the other.
-use Prim.Native.Nat.{◌+◌}
 use native.Mathlib.Omega.{arith}
 use mathlib.Core.Path.{◌∙◌}
-use borrow.Author.Rules.{rules}
 use Rattle.writer.specs.declared.part.Part.TheVariants.{Phase}
 use Rattle.bits.proofs.Values.{length-bits}
 use Rattle.writer.proofs.Appending.{appends-none, appends-join}

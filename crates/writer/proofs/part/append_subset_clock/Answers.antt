@@ -1,7 +1,5 @@
 -- Of a record of another kind nothing is taken, nor of a satellite that is not chosen.
 use mathlib.Core.Path.{sym, ◌∙◌}
-use borrow.Author.Rules.{rules}
-use borrow.Author.Tests.{not-true, not-false}
 use Rattle.writer.specs.declared.part.Part.TheVariants.{SubsetClock}
 use Rattle.writer.proofs.Appending.{appends-none}
 use Rattle.writer.proofs.RecordFields.{part_none, unchosen, subset-clock-bits}

@@ -3,7 +3,6 @@ use Prim.Native.Nat.{ℕ}
 use mathlib.Core.Bool.{not}
 use mathlib.Core.Path.{sym, ap, ◌∙◌}
 use lib.Dec.{eqb}
-use borrow.Author.Rules.{rules}
 use Rattle.writer.proofs.RecordFields.{chosen_at}
 use Rattle.writer.proofs.part.is_chosen.Goals as goal
 

@@ -1,5 +1,4 @@
 -- The two parts that are lent are the records of the first and of the second system.
-use borrow.Author.Rules.{rules}
 use Rattle.writer.proofs.SecondSystem.{rendered-cut}
 use Rattle.writer.proofs.render.render.Goals as goal
 

@@ -1,9 +1,6 @@
 -- After k turns the first k records are no system's; the loop ends at the first that is, or behind the last.
-use Prim.Native.Nat.{◌-◌, ◌≤◌, ◌<◌}
-use native.Mathlib.Omega.{arith}
-use mathlib.Core.Path.{◌≡◌}
-use borrow.Author.Rules.{rules}
-use Rattle.writer.proofs.SecondSystem.{Until, until_none, until-here, until-more, until_end}
+use Prim.Native.Nat.{◌-◌, ◌≤◌}
+use Rattle.writer.proofs.SecondSystem.{Until}
 use Rattle.writer.proofs.render.until_system.Given as goal
 
 abbrev pub invariant-loop-k : goal.invariant-loop-k

@@ -3,8 +3,6 @@ use native.Mathlib.Omega.{arith}
 use mathlib.Core.List.{[]}
 use mathlib.Core.Path.{sym, ap, ◌∙◌}
 use lib.ListN.{drop}
-use borrow.Author.Rules.{rules}
-use borrow.Author.Tests.{not-true, not-false}
 use Rattle.bits.specs.Bits.{num, bits}
 use Rattle.bits.proofs.Values.{length-bits}
 use Rattle.writer.proofs.Appending.{appends-none}

@@ -1,12 +1,11 @@
 -- After g turns the bits of the first g signals are appended, at most one of each.
-use Prim.Native.Nat.{◌+◌, ◌*◌, ◌-◌, ◌≤◌, ◌<◌}
+use Prim.Native.Nat.{◌<◌}
 use native.Mathlib.Omega.{arith}
 use mathlib.Core.Path.{refl, ◌∙◌}
 use lib.ListN.{drop}
 use borrow.Author.Rules.{rules}
-use Rattle.writer.specs.Rendering.{row, signals_of}
 use Rattle.writer.proofs.Rows.{row-end}
-use Rattle.writer.proofs.Turns.{Begun, begun-start, begun_more, begun_all, begun-le}
+use Rattle.writer.proofs.Turns.{begun-start, begun_more, begun_all, begun-le}
 use Rattle.writer.proofs.row.append_row.Goals as goal
 
 pub loop-g-init : goal.loop-g-init

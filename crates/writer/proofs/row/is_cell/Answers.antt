@@ -4,7 +4,6 @@ use mathlib.Core.Bool.{Bool, ◌&&◌}
 use mathlib.Core.Path.{sym, ap, ap₂, ◌∙◌}
 use lib.Dec.{eqb}
 use lib.ListN.{get_or}
-use borrow.Author.Rules.{rules}
 use borrow.Author.Tests.{eq-eqb, ne_eqb}
 use Rattle.writer.proofs.RecordFields.{cell_at}
 use Rattle.writer.proofs.row.is_cell.Goals as goal

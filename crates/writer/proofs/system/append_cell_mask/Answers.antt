@@ -1,5 +1,4 @@
 -- The cell mask is put if the flag is 1, else nothing.
-use borrow.Author.Rules.{rules}
 use borrow.Author.Tests.{eq-eqb, ne_eqb}
 use lib.Dec.{eqb}
 use lib.ListN.{get_or}

@@ -1,5 +1,4 @@
 -- No octets are no record of a system; else the first one tells.
-use borrow.Author.Rules.{rules}
 use Rattle.writer.proofs.SecondSystem.{none-kind}
 use Rattle.writer.proofs.system.is_system.Goals as goal
 

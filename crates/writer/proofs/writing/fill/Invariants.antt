@@ -1,13 +1,8 @@
 -- After k turns k bits are put.
 use mathlib.Core.Bool.{false}
-use mathlib.Core.Path.{◌≡◌, ◌∙◌}
-use Prim.Native.Nat.{◌-◌, ◌≤◌, ◌<◌}
-use native.Mathlib.Omega.{arith}
-use borrow.Author.Rules.{rules}
+use Prim.Native.Nat.{◌-◌, ◌≤◌}
 use Rattle.writer.specs.Writer.{turns}
 use Rattle.writer.specs.Rendering.{Appends}
-use Rattle.writer.proofs.Appending.{appends-none, appends-join}
-use Rattle.writer.proofs.Filling.{length-turns, turns_next}
 use Rattle.writer.proofs.writing.fill.Given as goal
 
 abbrev pub invariant-loop-k : goal.invariant-loop-k

@@ -6,7 +6,6 @@ use lib.ListN.{length, replicate, length-replicate}
 use lib.Seq.{length-take-le}
 use borrow.Author.Rules.{rules}
 use Rattle.bits.specs.Bits.{bits_of}
-use Rattle.mt1.specs.Mt1.{Lent}
 use Rattle.writer.proofs.ReadBack.{Decides, reading-decides}
 use Rattle.writer.proofs.writing.reads_back.Goals as goal
 use Rattle.writer.proofs.writing.reads_back.Goals.{After-read_octets-answer}

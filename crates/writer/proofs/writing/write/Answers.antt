@@ -4,8 +4,6 @@ use mathlib.Core.Bool.{true, ◌&&◌}
 use mathlib.Core.Option.{none}
 use mathlib.Core.Path.{◌≡◌, sym, ◌∙◌}
 use lib.ListN.{length}
-use borrow.Author.Rules.{rules}
-use borrow.Author.Tests.{not-true, not-false}
 use Rattle.writer.specs.Writer.{Call, are_records, is_header, check}
 use Rattle.writer.proofs.Checks.{list-long, list-records, check-out, check-form, check-mask, check-none, writes-refused, writes-judged, writes-many}
 use Rattle.writer.proofs.writing.write.Goals as goal

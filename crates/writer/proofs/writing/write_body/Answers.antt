@@ -1,15 +1,12 @@
 -- The list is rendered, read back and held against itself; what is answered follows from the laws of the body.
 -- ---- the body, once it is rendered
-use Prim.Native.Nat.{ℕ, ◌+◌, ◌*◌, ◌/◌, ◌≤◌}
+use Prim.Native.Nat.{◌+◌, ◌*◌, ◌/◌, ◌≤◌}
 use native.Mathlib.Omega.{arith}
-use mathlib.Core.List.{List}
 use mathlib.Core.Path.{◌≡◌, refl, sym}
 use lib.ListN.{length, take}
 use lib.Seq.{length-take-le}
 use borrow.Author.Rules.{rules}
-use borrow.Author.Tests.{not-true, not-false}
 use Rattle.lists.proofs.Tests.{clash}
-use Rattle.mt1.specs.Mt1.{Lent}
 use Rattle.bits.specs.Bits.{bits_of}
 use Rattle.writer.specs.Writer.{ReadsTo}
 use Rattle.writer.proofs.Bodies.{copied, body-few, body_end, body-form, body-long, body-size}
@@ -60,20 +57,18 @@ reads_back-requires c =
     (omega (arith, read_length (goal.at.reads_back-requires c).After-body-2-1, long (goal.at.reads_back-requires c).After-body-2-1), omega (arith, read_length (goal.at.reads_back-requires c).After-body-2-1, few (goal.at.reads_back-requires c).After-body-2-1), c.requires.1)
 
 pub returns-then-not-reads_back : goal.returns-then-not-reads_back
-returns-then-not-reads_back c =
-    (
-      body-form c.args.records.now _ (c.render-end.new.out) c.render-end.result c.render-end.ensures (room (goal.at.returns-then-not-reads_back c).After-body-2-1) (record { id = c.args.mask_id; octets = c.args.mask.now }) c.args.out.now c.args.out.now
-          (λ t. clash (c.reads_back.ensures.1 t) c.if-not-reads_back.true),
-      λ w e. refl,
-    )
+returns-then-not-reads_back c = (
+  body-form c.args.records.now _ (c.render-end.new.out) c.render-end.result c.render-end.ensures (room (goal.at.returns-then-not-reads_back c).After-body-2-1) (record { id = c.args.mask_id; octets = c.args.mask.now }) c.args.out.now c.args.out.now
+      (λ t. clash (c.reads_back.ensures.1 t) c.if-not-reads_back.true),
+  λ w e. refl,
+)
 
 pub returns-then-end-gt-MESSAGE_BITS : goal.returns-then-end-gt-MESSAGE_BITS
-returns-then-end-gt-MESSAGE_BITS c =
-    (
-      body-long c.args.records.now _ (c.render-end.new.out) c.render-end.result c.render-end.ensures (room (goal.at.returns-then-end-gt-MESSAGE_BITS c).After-body-2-1) (record { id = c.args.mask_id; octets = c.args.mask.now }) c.args.out.now c.args.out.now
-          (c.reads_back.ensures.0 c.if-not-reads_back.false) c.if-end-gt-MESSAGE_BITS.true,
-      λ w e. refl,
-    )
+returns-then-end-gt-MESSAGE_BITS c = (
+  body-long c.args.records.now _ (c.render-end.new.out) c.render-end.result c.render-end.ensures (room (goal.at.returns-then-end-gt-MESSAGE_BITS c).After-body-2-1) (record { id = c.args.mask_id; octets = c.args.mask.now }) c.args.out.now c.args.out.now
+      (c.reads_back.ensures.0 c.if-not-reads_back.false) c.if-end-gt-MESSAGE_BITS.true,
+  λ w e. refl,
+)
 
 pub copy_front-requires : goal.copy_front-requires
 copy_front-requires c =
@@ -81,9 +76,8 @@ copy_front-requires c =
     omega (arith, written-length d, within d, c.requires.2)
 
 pub returns : goal.returns
-returns c =
-    (
-      body-size c.args.records.now _ (c.render-end.new.out) c.render-end.result c.render-end.ensures (room (goal.at.returns c).After-body-2-1) (record { id = c.args.mask_id; octets = c.args.mask.now }) c.args.out.now _
-          (read_back (goal.at.returns c).After-body-6-1) (within (goal.at.returns c).After-body-6-1) _ refl c.fill.new.out _ c.fill.ensures (λ i. (c.type_inv.out i).fits) (copied (take (53 * ((c.render-end.result + 423) / 424)) c.fill.new.out) c.args.out.now _ _ (written-length (goal.at.returns c).After-body-6-1) c.copy_front.ensures),
-      λ w e. absurd (size-refused e),
-    )
+returns c = (
+  body-size c.args.records.now _ (c.render-end.new.out) c.render-end.result c.render-end.ensures (room (goal.at.returns c).After-body-2-1) (record { id = c.args.mask_id; octets = c.args.mask.now }) c.args.out.now _
+      (read_back (goal.at.returns c).After-body-6-1) (within (goal.at.returns c).After-body-6-1) _ refl c.fill.new.out _ c.fill.ensures (λ i. (c.type_inv.out i).fits) (copied (take (53 * ((c.render-end.result + 423) / 424)) c.fill.new.out) c.args.out.now _ _ (written-length (goal.at.returns c).After-body-6-1) c.copy_front.ensures),
+  λ w e. absurd (size-refused e),
+)
