@@ -1,6 +1,6 @@
 /* The box for C: the calls of Lysegnom. crates/has_c/src/lib.rt has the contract of each.
  *
- * Link target/staticlib/libhas_c.a, which `rt staticlib has_c` proves and builds for x86-64. It calls memcpy and memset and nothing else:
+ * Link crates/has_c/out/libhas_c.a, which `rt lib` in crates/has_c proves and builds for x86-64. It calls memcpy and memset and nothing else:
  * no heap, no file, no clock, no memory of its own between calls. So calls may run at once in several threads. A collector is kept by the caller, in
  * two buffers of octets.
  *

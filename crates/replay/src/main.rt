@@ -5,8 +5,9 @@
 // LENGTH. If even its second is cut, there is nothing to feed: the line has - in the place of the second, and says LENGTH too.
 #![tactic(auto)]
 
-ghost use Rattle.std.specs.Prelude.{◌≡◌, ◌≤◌, length, IfOk};
+ghost use Rattle.std.specs.Prelude.{◌≡◌, ◌≤◌, length, IfOk, OnErr};
 ghost use Rattle.collector.specs.Image.{Made};
+ghost use Rattle.collector.specs.declared.state.Head.{Head as HeadImage};
 ghost use Rattle.replay.specs.Drive.{second_of};
 
 mod answer;
@@ -31,7 +32,7 @@ fn second_of(octets: &[u8]) -> u64
     (high * 256 + wide(octets[2])) * 256 + wide(octets[3])
 }
 
-// Feeds a page, and prints the answer.
+// Feeds a page, and prints the answer. Where it cannot be printed, the store is as the feed left it.
 fn feed_page(
     rt: &impl Print,
     head: Head,
@@ -40,7 +41,8 @@ fn feed_page(
     page: &[u8],
 ) -> io::Result<Head>
     requires { Made (record { head = head; store = store.old }) }
-    ensures { IfOk result (λ after. Made (record { head = after; store = store.new })) }
+    ensures fed { IfOk result (λ after. Made (record { head = after; store = store.new })) }
+    ensures failed { OnErr result ((after : HeadImage) × Made (record { head = after; store = store.new })) }
 {
     let mut message = [0u8; MESSAGE_OCTETS];
     let fed = collector::feed_in_place(head, store, second, page, &mut message);
@@ -53,7 +55,8 @@ fn feed_page(
 // The line of an entry, or of what is there of the last one.
 fn replay_entry(rt: &impl Print, head: Head, store: &mut [u8], octets: &[u8]) -> io::Result<Head>
     requires { Made (record { head = head; store = store.old }) }
-    ensures { IfOk result (λ after. Made (record { head = after; store = store.new })) }
+    ensures fed { IfOk result (λ after. Made (record { head = after; store = store.new })) }
+    ensures failed { OnErr result ((after : HeadImage) × Made (record { head = after; store = store.new })) }
 {
     if octets.len() < SECOND_OCTETS {
         stdio::write_all(rt, b"-")?;
