@@ -1,5 +1,4 @@
 -- Whatever was passed is legal and new, so the answer is that of what is left behind it.
--- the numbers from i on, behind the first i
 use mathlib.Core.Bool.{true, false, ◌&&◌}
 use mathlib.Core.List.{List, ◌∷◌}
 use mathlib.Core.Path.{◌≡◌, refl, sym, ap, ◌∙◌}

@@ -1,5 +1,4 @@
 -- Whatever was passed is legal and new, so the answer is that of what is left behind it.
--- the numbers from i on, behind the first i
 use mathlib.Core.Bool.{Bool}
 use mathlib.Core.List.{List, []}
 use mathlib.Core.Path.{◌≡◌}
@@ -8,6 +7,7 @@ use lib.ListN.{take, drop}
 use Rattle.collector.specs.Checks.{are_numbers}
 use Rattle.collector.proofs.checking.are_numbers.Given as goal
 
+-- the numbers from i on, behind the first i
 abbrev pub left : ℕ → ℕ → List ℕ → ℕ → Bool
 left size count numbers i = are_numbers size (take i numbers) (drop i (take count numbers))
 

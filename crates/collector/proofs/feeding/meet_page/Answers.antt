@@ -1,6 +1,5 @@
 -- The place's image tells its case: free cannot be, done stays, and of an open one its key, its count and its numbers.
 -- The number is found at the index of the page that the model looks up, whose content stands at that index of the place's part of the store.
--- the call that looked for the number
 use mathlib.Core.Bool.{true, false}
 use mathlib.Core.Path.{sym, ap, ◌∙◌}
 use Prim.Native.Nat.{◌<◌}

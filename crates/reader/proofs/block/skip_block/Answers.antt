@@ -1,5 +1,4 @@
 -- Interval, multipliers and two rows, each behind the one before it: the first that refuses is the block's refusal, and each ends within the octets.
--- the block, and where each part that is there ends
 use Prim.Native.Nat.{◌≤◌}
 use native.Mathlib.Omega.{arith}
 use mathlib.Core.List.{[], ◌∷◌}
@@ -15,6 +14,7 @@ use Rattle.reader.proofs.Skipping.{items-end, interval-end, block_walk, block-st
 use Rattle.reader.proofs.block.skip_block.Goals as goal
 use Rattle.reader.proofs.block.skip_block.Goals.{In-At, In-At-t, In-At-u, Start}
 
+-- the block, and where each part that is there ends
 whole : (i : Start) → let a = i.args in
     step_of (skipped_block a.multipliers a.first (widths_of a.v) a.second (widths_of a.w) (bits_of a.octets.now) a.at)
     ≡ block_walk (bits_of a.octets.now) a.multipliers a.first a.second (widths_of a.v) (widths_of a.w) a.at

@@ -1,5 +1,4 @@
 -- Four fields, each behind the one before it: the first that is not there refuses, and a field of small width ends near.
--- the item, and where each field that is there ends
 use Prim.Native.Nat.{◌+◌, ◌≤◌}
 use native.Mathlib.Omega.{arith}
 use mathlib.Core.Path.{◌≡◌, sym, ◌∙◌}
@@ -11,6 +10,7 @@ use Rattle.reader.proofs.Skipping.{raw-end, item_walk, item-steps}
 use Rattle.reader.proofs.block.skip_item.Goals as goal
 use Rattle.reader.proofs.block.skip_item.Goals.{In-At, In-At-t, In-At-u, Start}
 
+-- the item, and where each field that is there ends
 item : (i : Start) → let a = i.args in
     step_of (for_each (widths_of a.w) field (bits_of a.octets.now) a.at) ≡ item_walk (bits_of a.octets.now) a.w.a a.w.b a.w.c a.w.d a.at
 item i =

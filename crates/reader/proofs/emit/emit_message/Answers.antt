@@ -1,5 +1,4 @@
 -- The header's record, then those of the first and of the second system, at the places that the plan gives.
--- back to the header's record, to the start, and from the second system to the first
 use borrow.Author.Rules.{rules}
 use Rattle.reader.proofs.Systems.{close}
 use Rattle.reader.proofs.Emitted.{wrote-header, emitted-none, first-near, first-there, first-room, emitted-one, second-near, second-there, emitted-two}

@@ -1,6 +1,5 @@
 -- Each block that is passed over is read there, by the contract of its step; the refusal of one is that of all.
 -- A place behind a block is in the message, since the block's bits are.
--- the bits of the message
 use Prim.Native.Nat.{ℕ}
 use native.Mathlib.Omega.{arith}
 use mathlib.Core.Bool.{false}

@@ -1,5 +1,4 @@
 -- The ID is one of the mask's systems and tells how many satellites its part has; what is passed over behind it is that part.
--- the ID that is there
 use Prim.Native.Nat.{ℕ, ◌+◌, ◌≤◌}
 use native.Mathlib.Omega.{arith}
 use mathlib.Core.List.{List, [], ◌∷◌}

@@ -1,5 +1,4 @@
 -- Multiplier, bits and clocks, each behind the one before it: the first that refuses is the part's refusal.
--- where multiplier and bits end
 use Prim.Native.Nat.{◌≤◌}
 use native.Mathlib.Omega.{arith}
 use mathlib.Core.Path.{◌≡◌, sym, ◌∙◌}

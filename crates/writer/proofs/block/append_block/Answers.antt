@@ -1,5 +1,4 @@
 -- The interval and the part of each system, one behind another; nothing if the flag is 0.
--- back to the start from each call
 use native.Mathlib.Omega.{arith}
 use mathlib.Core.Bool.{false}
 use mathlib.Core.List.{◌++◌}

@@ -1,5 +1,4 @@
 -- The five fields of the header, one behind another.
--- back to the start from each call
 use native.Mathlib.Omega.{arith}
 use mathlib.Core.Path.{◌∙◌}
 use borrow.Author.Rules.{rules}

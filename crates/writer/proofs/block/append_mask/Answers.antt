@@ -1,5 +1,4 @@
 -- How many systems there are, each system, and the reserved bits, one behind another; nothing if the flag is 0.
--- back to the start from each call
 use native.Mathlib.Omega.{arith}
 use mathlib.Core.List.{◌++◌}
 use mathlib.Core.Path.{◌≡◌, sym, ap, ◌∙◌}

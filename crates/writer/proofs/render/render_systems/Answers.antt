@@ -1,5 +1,4 @@
 -- The header, the mask and the five blocks, one behind another; all parts together have room.
--- back to the start from each call
 use native.Mathlib.Omega.{arith}
 use mathlib.Core.Path.{◌∙◌}
 use Prim.Native.Nat.{◌+◌}

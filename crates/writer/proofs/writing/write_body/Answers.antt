@@ -1,5 +1,4 @@
 -- The list is rendered, read back and held against itself; what is answered follows from the laws of the body.
--- ---- the body, once it is rendered
 use Prim.Native.Nat.{◌+◌, ◌*◌, ◌/◌, ◌≤◌}
 use native.Mathlib.Omega.{arith}
 use mathlib.Core.Path.{◌≡◌, refl, sym}
