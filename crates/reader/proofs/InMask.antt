@@ -34,7 +34,7 @@ pub part-ok : (ss : List System) (b : Option (Block (List Subset))) (id : ℕ) �
 part-ok ss none id o = tt
 part-ok ss (some b) id o = of-id-ok ss b.body id o.body.each
 
-pub part_of : (b : Option (Block (List Subset))) (id : ℕ) → of_id (subsets_in b) id ≡ subset_of b id
+pub part_of_lem : (b : Option (Block (List Subset))) (id : ℕ) → of_id (subsets_in b) id ≡ subset_of b id
 unfolding of_id
-part_of none id = refl
-part_of (some b) id = refl
+part_of_lem none id = refl
+part_of_lem (some b) id = refl

@@ -28,7 +28,7 @@ use Rattle.reader.specs.declared.record.Rows.{Rows}
 use Rattle.reader.specs.Steps.{system_plan, plan_of, cells_length, mask_plan, Stands, body_bits, part_bits, chain, subsets_in, Planned}
 use Rattle.reader.specs.Recording.{row, IfSome, SystemStands, Near, RowsStand, Emits, onwards, Close, first_rows, second_rows}
 use Rattle.reader.proofs.SystemSteps.{mask-cells}
-use Rattle.reader.proofs.InMask.{part-ok, part_of}
+use Rattle.reader.proofs.InMask.{part-ok, part_of_lem}
 use Rattle.reader.proofs.RowsStanding.{total, total-one, orbit-row, code_row, phase-row, clock-row, multiplier-at}
 
 if_some : {A : Type 0} (b : Bool) (P : A → Type 0) (x : Option A) → IfFlag b P x → IfSome P x
@@ -92,7 +92,7 @@ module _ {lent : Lent} {octets sourced : List ℕ} {m : Message} {ss : List Syst
           multiplier_ok = u.1;
           clock = rw clock c.0;
           clock_ok = c.1;
-          part = rw (here, part_of m.subset s.id) at part;
+          part = rw (here, part_of_lem m.subset s.id) at part;
           part_ok = rw (satellites-of known [] ss p here planned.mask.made.1.differ) at (part-ok ss m.subset s.id (if_some (has_subset m.header) _ m.subset k.subset));
           code = rw code x.0;
           code_ok = x.1;
