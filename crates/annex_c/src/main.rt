@@ -3,101 +3,71 @@
 
 mod pages;
 
-ghost use Rattle.std.specs.Prelude.{◌≤◌};
-
-use pagecode::Answer;
 use pages::{CONTENTS, NUMBERS};
-use reader::{RECORDS_OCTETS, ReadAnswer};
+use reader::RECORDS_OCTETS;
 use std::io;
-use writer::{MESSAGE_OCTETS, WriteAnswer};
+use writer::MESSAGE_OCTETS;
 
-fn wide(x: u8) -> u64 {
-    x as u64
-}
+// The octets of the example's message, and of each of its 15 pages.
+const OCTETS: usize = 795;
 
-// Prints octets in hexadecimal, on a line.
+const PAGE_OCTETS: usize = 53;
+
+const RECORD_OCTETS: usize = 16;
+
+// Prints octets in hexadecimal, on a line. No `hex_text::print_line`: that has capital digits.
 fn print_octets(rt: &impl Print, octets: &[u8]) -> io::Result<()> {
-    let mut i: usize = 0;
-    while i < octets.len() {
-        stdio::print_hex(rt, wide(octets[i]), 2)?;
-        i += 1;
+    for octet in octets {
+        print!(rt; "{octet:02x}")?;
     }
-    stdio::write_all(rt, b"\n")
+    println!(rt)
 }
 
 // Whether the message's page with this number has these contents. The example's pages have status 0 and message number 15.
 fn has_page(message: &[u8], number: u64, contents: &[u8]) -> bool {
     let mut page = [0u8; 56];
-    let answer = pagecode::encode_page(message, 0, 15, number, &mut page);
-    let Answer::Good = answer else {
-        return false;
-    };
-    check::same(&page[3..], contents)
+    pagecode::encode_page(message, 0, 15, number, &mut page).is_ok() && &page[3..] == contents
 }
 
-// Whether the first n records, written again, are the message.
-fn is_written_again(records: [u8; RECORDS_OCTETS], n: usize, message: &[u8]) -> bool
-    requires { n ≤ 1363 }
-{
-    let none = [0u8; 0];
+// Whether the records, written again, are the message.
+fn is_written_again(records: &[u8], message: &[u8]) -> bool {
     let mut again = [0u8; MESSAGE_OCTETS];
-    let answer = writer::write(&records[..16 * n], 0, &none, &mut again);
-    let WriteAnswer::Size(_) = answer else {
-        return false;
-    };
-    check::same(&again[..795], message)
+    writer::write(records, 0, &[], &mut again).is_ok() && again.starts_with(message)
 }
 
 // How many records the message has, and whether they are written to it again.
-fn print_reading(rt: &impl Print, message: [u8; 1696]) -> io::Result<()> {
-    let none = [0u8; 0];
+fn print_reading(rt: &impl Print, message: &[u8]) -> io::Result<()> {
     let mut records = [0u8; RECORDS_OCTETS];
-    let answer = reader::read(&message[..795], 0, &none, &mut records);
-    let ReadAnswer::Records(n) = answer else {
-        stdio::write_all(rt, b"It does not read as message type 1.\n")?;
-        return Ok(());
+    let Ok(n) = reader::read(message, 0, &[], &mut records) else {
+        return println!(rt; "It does not read as message type 1.");
     };
-    stdio::write_all(rt, b"Records that it has, read as message type 1: ")?;
-    stdio::print_decimal(rt, n)?;
-    stdio::write_all(rt, b"\n")?;
-    if n > 1363 {
-        return Ok(());
+    println!(rt; "Records that it has, read as message type 1: {n}")?;
+    let count = (n as usize).min(RECORDS_OCTETS / RECORD_OCTETS);
+    if is_written_again(&records[..count * RECORD_OCTETS], message) {
+        println!(rt; "Written again from its records: the same octets.")?;
     }
-    if is_written_again(records, n as usize, &message[..795]) {
-        stdio::write_all(rt, b"Written again from its records: the same octets.\n")?;
+    Ok(())
+}
+
+// The content of each page, on a line.
+fn print_pages(rt: &impl Print, message: &[u8]) -> io::Result<()> {
+    for page in message.chunks_exact(PAGE_OCTETS) {
+        print_octets(rt, page)?;
     }
     Ok(())
 }
 
 fn main(rt: HostRuntime) -> io::Result<()> {
-    let contents = CONTENTS;
-    let numbers = NUMBERS;
-    let mut message = [0u8; 1696];
-    let answer = pagecode::solve(&contents, &numbers, &mut message);
-    let Answer::Good = answer else {
-        stdio::write_all(&rt, b"refused\n")?;
-        return Ok(());
-    };
-    stdio::write_all(
-        &rt,
-        b"The message of 15 pages that Annex C of the HAS SIS ICD sends:\n",
-    )?;
-    let mut i: usize = 0;
-    let mut same: usize = 0;
-    while i < 15 {
-        let start = i * 53;
-        let end = start + 53;
-        print_octets(&rt, &message[start..end])?;
-        if has_page(&message[..795], numbers[i], &contents[start..end]) {
-            same += 1;
-        }
-        i += 1;
+    let mut message = [0u8; MESSAGE_OCTETS];
+    if pagecode::solve(&CONTENTS, &NUMBERS, &mut message).is_err() {
+        return println!(rt; "refused");
     }
-    if same == 15 {
-        stdio::write_all(
-            &rt,
-            b"Encoded again at its 15 page numbers: the same pages.\n",
-        )?;
+    let (message, _) = message.split_at(OCTETS);
+    println!(rt; "The message of 15 pages that Annex C of the HAS SIS ICD sends:")?;
+    print_pages(&rt, message)?;
+    let mut pages = NUMBERS.iter().zip(CONTENTS.chunks_exact(PAGE_OCTETS));
+    if pages.all(|(&number, contents)| has_page(message, number, contents)) {
+        println!(rt; "Encoded again at its 15 page numbers: the same pages.")?;
     }
     print_reading(&rt, message)
 }

@@ -7,7 +7,7 @@ use Prim.Native.Nat.{ℕ, zero, suc, ◌+◌, ◌*◌, ◌/◌, ◌^◌, ◌-◌
 use native.Mathlib.Nat.{mod-eq_of_lt, zero-add, suc-add}
 use native.Mathlib.Omega.{arith}
 use lib.ListN.{length, get_or, take, drop, set, length-append, length-drop, take-append-drop, get_or-append}
-use lib.Seq.{length-take-le, take_at, drop_at, split_at, take-append-le, drop-append-le, drop-append-add, get_or-append-add, set_split, set-append_left}
+use lib.Seq.{length-take-le, take_at, drop_at, split_at, get_or-append-add, set_split, set-append_left}
 use Rattle.bits.specs.Bits.{odd, bits, value, bits_of, octets, octets_of}
 use Rattle.bits.proofs.Values.{length-bits, bits_at, value-bits, bits-value}
 
@@ -42,16 +42,6 @@ module _ (s : List ℕ) (q : ℕ) (here : q < length s) where
   octet-split : bits_of s ≡ bits_of (take q s) ++ (bits 8 (get_or s q 0) ++ bits_of (drop (suc q) s))
   unfolding bits_of
   octet-split = ap bits_of (split_at s q 0 here) ∙ bits_of-append (take q s) (get_or s q 0 ∷ drop (suc q) s)
-
-  -- bits that lie in it
-  pub octet-part : (i o m : ℕ) → i ≡ 8 * q + o → o + m ≤ 8 → take m (drop i (bits_of s)) ≡ take m (drop o (bits 8 (get_or s q 0)))
-  octet-part i o m e h =
-      let x : ℕ = get_or s q 0 in
-      let rest : List Bool = bits_of (drop (suc q) s) in
-      let f : i ≡ length (bits_of (take q s)) + o = omega (arith, length_before) in
-      ap₂ (λ (k : ℕ) (bs : List Bool). take m (drop k bs)) f octet-split
-      ∙ ap (take m) (drop-append-add (bits_of (take q s)) (bits 8 x ++ rest) o ∙ drop-append-le o (bits 8 x) rest (omega (arith, length-bits 8 x)))
-      ∙ take-append-le m (drop o (bits 8 x)) rest (omega (arith, length-drop o (bits 8 x), length-bits 8 x))
 
   pub bits_of-at : (i o : ℕ) → i ≡ 8 * q + o → o < 8 → get_or (bits_of s) i false ≡ odd (get_or s q 0 / 2 ^ (7 - o))
   bits_of-at i o e h =

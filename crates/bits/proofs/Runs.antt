@@ -1,40 +1,60 @@
--- A run of bits read from octets, a part of an octet at a time; the number at a place.
--- The bits of one octet behind those already read: the value doubles once for each, and stays below 2 ^ their number.
+-- A run of bits read from octets, an octet at a time; the number at a place.
+-- The octets that a run lies in are a number of which the run is a part; each octet multiplies it by 256, and so it stays below 2 ^ 8 for each.
 use mathlib.Core.Path.{◌≡◌, refl, sym, ap, ap₂, ◌∙◌}
 use mathlib.Core.Bool.{Bool, true, false, ◌&&◌, cond}
-use mathlib.Core.List.{List, ◌++◌}
+use mathlib.Core.List.{List, [], ◌∷◌, ◌++◌, append-nil}
 use Prim.Native.Nat.{ℕ, ◌+◌, ◌*◌, ◌/◌, ◌%◌, ◌^◌, ◌-◌, ◌≤◌, ◌<◌}
-use native.Mathlib.Nat.{mod-eq_of_lt, lt_of_lt_of_le, le_trans, le_of_eq}
+use native.Mathlib.Nat.{mod-eq_of_lt, lt_of_lt_of_le}
 use native.Mathlib.Decide.{dec_le}
+use native.Mathlib.Numerals.{add-one}
 use native.Mathlib.Omega.{arith}
 use lib.Dec.{leb}
-use lib.Arith.{digits_lt}
-use lib.ListN.{length, get_or, take, drop, length-take, length-drop}
-use lib.Seq.{take-add, drop-drop}
-use lib.Pow.{pow_pos, pow_mono, pow-add}
+use lib.ListN.{length, get_or, take, drop, length-take, length-drop, take-append-drop}
+use lib.Seq.{take-suc, take-append-le, drop-append-le, drop-append-add}
+use lib.Pow.{pow_pos, pow_mono}
 use borrow.Author.Tests.{le-leb, lt-leb, leb-true, leb-false}
 use Rattle.lists.proofs.Tests.{on_bool}
 use Rattle.bits.specs.Bits.{bits, value, bits_of, fits_in, is_number, number_at}
-use Rattle.bits.proofs.Values.{length-bits, value-bits, value-lt, value-append, bits-part}
-use Rattle.bits.proofs.Octets.{length-bits_of, octet-part}
+use Rattle.bits.proofs.Values.{length-bits, value-bits, bits-value, value-lt, value-append, bits-part}
+use Rattle.bits.proofs.Octets.{length-bits_of, bits_of-append}
 
 pub run-lt : (k : ℕ) (bs : List Bool) → value (take k bs) < 2 ^ k
 run-lt k bs = lt_of_lt_of_le (value-lt (take k bs)) (pow_mono (omega (arith, length-take k bs)))
 
--- m bits more, which lie in the octet q
-pub run-part : (s : List ℕ) (at k m q o : ℕ) → q < length s → at + k ≡ 8 * q + o → o + m ≤ 8
-    → value (take (k + m) (drop at (bits_of s))) ≡ value (take k (drop at (bits_of s))) * 2 ^ m + get_or s q 0 / 2 ^ (8 - o - m) % 2 ^ m
-run-part s at k m q o h e l =
-    let bs : List Bool = bits_of s in
-    let n : length (take m (drop (at + k) bs)) ≡ m = omega (arith, length-take m (drop (at + k) bs), length-drop (at + k) bs, length-bits_of s) in
-    ap value (take-add k m (drop at bs) ∙ ap (λ (t : List Bool). take k (drop at bs) ++ take m t) (drop-drop k at bs))
-    ∙ value-append (take k (drop at bs)) (take m (drop (at + k) bs))
-    ∙ ap₂ (λ (x y : ℕ). value (take k (drop at bs)) * 2 ^ x + y) n
-    (ap value (octet-part s q h (at + k) o m e l) ∙ bits-part 8 (get_or s q 0) o m l)
+-- an octet more: the number of the octets' bits, and the octet's own
+pub run-octet : (s : List ℕ) (j x : ℕ) → j < length s → x ≡ get_or s j 0 → x < 256 → value (bits_of (take (j + 1) s)) ≡ value (bits_of (take j s)) * 256 + x
+unfolding bits_of
+run-octet s j x h e l =
+    ap (λ (k : ℕ). value (bits_of (take k s))) (add-one j)
+    ∙ ap (λ (t : List ℕ). value (bits_of t)) (take-suc s j 0 h ∙ ap (λ (y : ℕ). take j s ++ (y ∷ [])) (sym e))
+    ∙ ap value (bits_of-append (take j s) (x ∷ []) ∙ ap (λ (t : List Bool). bits_of (take j s) ++ t) (append-nil (bits 8 x)))
+    ∙ value-append (bits_of (take j s)) (bits 8 x)
+    ∙ ap₂ (λ (k v : ℕ). value (bits_of (take j s)) * 2 ^ k + v) (length-bits 8 x) (value-bits 8 x ∙ mod-eq_of_lt l)
 
--- and they fit
-pub run_room : (v k m w x : ℕ) → v < 2 ^ k → x < 2 ^ m → k + m ≤ w → v * 2 ^ m + x < 2 ^ w
-run_room v k m w x h l e = lt_of_lt_of_le (digits_lt h l) (le_trans (le_of_eq (sym (pow-add 2 k m))) (pow_mono e))
+-- and its bound: eight bits for each octet
+pub run-room : (s : List ℕ) (j w : ℕ) → 8 * j ≤ w → value (bits_of (take j s)) < 2 ^ w
+run-room s j w h = lt_of_lt_of_le (value-lt (bits_of (take j s))) (pow_mono (omega (arith, length-bits_of (take j s), length-take j s)))
+
+-- n bits that lie in the octets t, of which the first has `before` bits in front of them
+module _ (s : List ℕ) (first before count n : ℕ) (here : first + count ≤ length s) (few : before + n ≤ 8 * count) where
+  run-bits : take n (drop (8 * first + before) (bits_of s)) ≡ take n (drop before (bits_of (take count (drop first s))))
+  run-bits =
+      let t : List ℕ = take count (drop first s) in
+      let rest : List Bool = bits_of (drop count (drop first s)) in
+      let l : length (bits_of t) ≡ 8 * count = omega (arith, length-bits_of t, length-take count (drop first s), length-drop first s) in
+      let f : 8 * first + before ≡ length (bits_of (take first s)) + before = omega (arith, length-bits_of (take first s), length-take first s) in
+      ap₂ (λ (k : ℕ) (bs : List Bool). take n (drop k bs)) f (ap bits_of (sym (take-append-drop first s)) ∙ bits_of-append (take first s) (drop first s))
+      ∙ ap (take n) (drop-append-add (bits_of (take first s)) (bits_of (drop first s)) before
+      ∙ ap (drop before) (ap bits_of (sym (take-append-drop count (drop first s))) ∙ bits_of-append t (drop count (drop first s)))
+      ∙ drop-append-le before (bits_of t) rest (omega arith))
+      ∙ take-append-le n (drop before (bits_of t)) rest (omega (arith, length-drop before (bits_of t)))
+
+  pub run-number : value (take n (drop (8 * first + before) (bits_of s))) ≡ value (bits_of (take count (drop first s))) / 2 ^ (8 * count - before - n) % 2 ^ n
+  run-number =
+      let t : List ℕ = take count (drop first s) in
+      let l : length (bits_of t) ≡ 8 * count = omega (arith, length-bits_of t, length-take count (drop first s), length-drop first s) in
+      ap value (run-bits ∙ ap (λ (bs : List Bool). take n (drop before bs)) (sym (bits-value (8 * count) (bits_of t) l)))
+      ∙ bits-part (8 * count) (value (bits_of t)) before n few
 
 -- ---- the number at a place
 -- whether it is there, counted in octets: whole ones, and up to two for the broken rest

@@ -1,6 +1,6 @@
 -- One bit of an octet made another.
 -- A bit weighs 2 ^ its place from the end: that is what the octet grows or shrinks by where the bit changes.
-use mathlib.Core.Path.{◌≡◌, refl, sym, ap, ◌∙◌}
+use mathlib.Core.Path.{◌≡◌, sym, ap, ◌∙◌}
 use mathlib.Core.Bool.{Bool, true, false}
 use mathlib.Core.List.{List, [], ◌∷◌}
 use Prim.Native.Nat.{ℕ, zero, suc, ◌+◌, ◌*◌, ◌/◌, ◌^◌, ◌-◌, ◌≤◌, ◌<◌}
@@ -8,7 +8,7 @@ use native.Mathlib.Nat.{mod-eq_of_lt}
 use native.Mathlib.Omega.{arith}
 use lib.ListN.{length, get_or, set, length-set}
 use Rattle.bits.specs.Bits.{num, odd, bits, value}
-use Rattle.bits.proofs.Values.{odd-num, length-bits, bits_at, value-lt, value-bits, bits-value}
+use Rattle.bits.proofs.Values.{length-bits, bits_at, value-lt, value-bits, bits-value}
 
 value_set : (bs : List Bool) (k : ℕ) (b d : Bool) → k < length bs
     → value (set bs k b) + num (get_or bs k d) * 2 ^ (length bs - 1 - k) ≡ value bs + num b * 2 ^ (length bs - 1 - k)
@@ -23,14 +23,6 @@ value_set (c ∷ bs) (suc k) b d h =
     ∙ omega (arith, value_set bs k b d (omega arith)))
 
 -- ---- an octet
-num-zero : (u : Bool) {o : ℕ} → o ≡ num u → o < 1 → u ≡ false
-num-zero true e h = absurd (let z : ⊥ = omega arith in z)
-num-zero false e h = refl
-
-num-one : (u : Bool) {o : ℕ} → o ≡ num u → 0 < o → u ≡ true
-num-one true e h = refl
-num-one false e h = absurd (let z : ⊥ = omega arith in z)
-
 -- x with one of its eight bits, u, made w
 module _ (x k : ℕ) (hx : x < 256) (hk : k < 8) where
   one_bit : (u w : Bool) → odd (x / 2 ^ (7 - k)) ≡ u → value (set (bits 8 x) k w) + num u * 2 ^ (7 - k) ≡ x + num w * 2 ^ (7 - k)
@@ -50,23 +42,12 @@ module _ (x k : ℕ) (hx : x < 256) (hk : k < 8) where
   set-lt : (w : Bool) → value (set (bits 8 x) k w) < 256
   set-lt w = rw (set-length w) at (value-lt (set (bits 8 x) k w))
 
--- the same by numbers: o is the bit, b what it is to be, p the bit's weight
-module _ (x k b o p : ℕ) (hx : x < 256) (hk : k < 8) (eo : o ≡ num (odd (x / 2 ^ (7 - k)))) (ep : p ≡ 2 ^ (7 - k)) where
-  weighed : (u w : Bool) → odd (x / 2 ^ (7 - k)) ≡ u → odd b ≡ w → value (set (bits 8 x) k (odd b)) + num u * p ≡ x + num w * p
-  weighed u w e f = rw (f, ep) (one_bit x k hx hk u w e)
+  -- the octet that such a bit leaves: u is the bit that was, p its weight
+  pub bit-same : (u : Bool) → odd (x / 2 ^ (7 - k)) ≡ u → bits 8 x ≡ set (bits 8 x) k u
+  bit-same u e = bits-set x u (omega (arith, one_bit u u e))
 
-  pub bit-same : o ≡ b → bits 8 x ≡ set (bits 8 x) k (odd b)
-  bit-same e =
-      let f : odd b ≡ odd (x / 2 ^ (7 - k)) = ap odd (sym e ∙ eo) ∙ odd-num _ in
-      bits-set x k hx hk x (odd b) (omega (arith, weighed (odd (x / 2 ^ (7 - k))) (odd (x / 2 ^ (7 - k))) refl f))
+  pub bit_up : (p : ℕ) → p ≡ 2 ^ (7 - k) → odd (x / 2 ^ (7 - k)) ≡ false → (x + p < 256) × (bits 8 (x + p) ≡ set (bits 8 x) k true)
+  bit_up p ep e = (omega (arith, one_bit false true e, set-lt true), bits-set (x + p) true (omega (arith, one_bit false true e)))
 
-  pub bit_up : o < 2 → (o ≡ b → ⊥) → b ≡ 1 → (x + p < 256) × (bits 8 (x + p) ≡ set (bits 8 x) k (odd b))
-  bit_up h d e =
-      let q = weighed false true (num-zero _ eo (omega arith)) (ap odd e) in
-      (omega (arith, set-lt x k hx hk (odd b)), bits-set x k hx hk (x + p) (odd b) (omega arith))
-
-  pub bit-down : o < 2 → (o ≡ b → ⊥) → b < 2 → (b ≡ 1 → ⊥) → (p ≤ x) × (bits 8 (x - p) ≡ set (bits 8 x) k (odd b))
-  bit-down h d l n =
-      let z : b ≡ 0 = omega arith in
-      let q = weighed true false (num-one _ eo (omega arith)) (ap odd z) in
-      (omega arith, bits-set x k hx hk (x - p) (odd b) (omega arith))
+  pub bit-down : (p : ℕ) → p ≡ 2 ^ (7 - k) → odd (x / 2 ^ (7 - k)) ≡ true → (p ≤ x) × (bits 8 (x - p) ≡ set (bits 8 x) k false)
+  bit-down p ep e = (omega (arith, one_bit true false e), bits-set (x - p) false (omega (arith, one_bit true false e)))

@@ -96,7 +96,7 @@ places-complete last (p ∷ ps) o h =
 -- ---- the whole
 sound : (h : Head) (store : List ℕ) → is_made h store ≡ true → Octets store
     → Valid (collector_of h store) × (record { head = h; store = store } ≡ collector_image (collector_of h store))
-unfolding is_made are_eight
+unfolding are_eight
 sound h store e o =
     let e₁ = and_right (eqb (length store) 13568) _ e in
     let e₂ = and_right (startable h.timeout) _ e₁ in
@@ -119,7 +119,7 @@ sound h store e o =
     )
 
 complete : (c : Collector) → Valid c → is_made (head_image c) (store_image c.places) ≡ true
-unfolding is_made are_eight startable
+unfolding are_eight startable
 complete c v =
     rw (
       eq-eqb (length (store_image c.places)) 13568 (store-whole c.places v.eight v.each),

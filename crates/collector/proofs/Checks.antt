@@ -1,6 +1,6 @@
 -- The tests of keys, numbers and places: one that passes says that a place and its octets are the image of a place that is in order, and such an image passes.
 -- Each test says what `PlaceOk` says of the place that is read; what is not in use is 0, so the place has this image.
-use mathlib.Core.Bool.{true, ◌&&◌}
+use mathlib.Core.Bool.{Bool, true, false, ◌&&◌, ◌||◌, false≢true}
 use mathlib.Core.List.Memᴰ
 use mathlib.Core.List.{List, [], ◌∷◌, ◌++◌, append_assoc, append-nil, Memᴰ}
 use mathlib.Core.Path.{◌≡◌, refl, sym, ap, ap₂, ◌∙◌, subst}
@@ -9,7 +9,8 @@ use native.Mathlib.Omega.{arith}
 use lib.Dec.{leb, ltb, eqb}
 use lib.ListN.{length, take, drop, replicate, length-drop, take-append-drop}
 use lib.Seq.{length-take-le, drop-append_seam}
-use borrow.Author.Tests.{leb-true, le-leb, ltb-true, lt-ltb, eqb-true, eq-eqb}
+use borrow.Author.Tests.{leb-true, le-leb, ltb-true, lt-ltb, eqb-true, eq-eqb, not-true}
+use Rattle.std.specs.List.{list_any}
 use Rattle.pagecode.specs.Field.{Octets}
 use Rattle.pagecode.specs.Page.{legal}
 use Rattle.collector.specs.declared.state.Key.{Key as KeyImage}
@@ -20,9 +21,8 @@ use Rattle.collector.specs.Lists.{Nodup}
 use Rattle.collector.specs.Place.{Key, Held, Place, free, waiting, done, pages_in, numbers, contents, FirstIs}
 use Rattle.collector.specs.Valid.{KeyOk, PageOk, PlaceOk}
 use Rattle.collector.specs.Image.{padded, key_image, place_image}
-use Rattle.collector.specs.Steps.{first_index}
-use Rattle.collector.specs.Checks.{noughts, is_key, is_new, are_numbers, is_rest, is_kept, is_open, is_done, is_state, is_place}
-use Rattle.lists.proofs.Tests.{on_bool, and_left, and_right}
+use Rattle.collector.specs.Checks.{noughts, is_key, is_new, are_numbers, is_rest, is_kept, is_open, is_state, is_place}
+use Rattle.lists.proofs.Tests.{on_bool, clash, and_left, and_right}
 use Rattle.collector.proofs.Lists.{nodup-snoc}
 use Rattle.collector.proofs.Places.{numbers-length}
 use Rattle.collector.proofs.Keeps.{drop-octets}
@@ -53,7 +53,6 @@ padded-rest m n l e =
 -- ---- the key
 module _ (k : KeyImage) where
   key-ok : is_key k ≡ true → KeyOk (key_from k)
-  unfolding is_key
   key-ok e =
       let f = and_right (leb k.status 1) _ e in
       let g = and_right (leb k.number 31) _ f in
@@ -66,29 +65,27 @@ module _ (k : KeyImage) where
 
   module _ (last first : ℕ) (e : is_kept last k first ≡ true) where
     pub kept-key : KeyOk (key_from k)
-    unfolding is_kept
     kept-key = key-ok (and_left (is_key k) (leb first last) e)
 
     kept-first : first ≤ last
-    unfolding is_kept
     kept-first = leb-true first last (and_right (is_key k) (leb first last) e)
 
 ok-kept : (last : ℕ) (k : Key) (first : ℕ) → KeyOk k → first ≤ last → is_kept last (key_image k) first ≡ true
-unfolding is_kept is_key
 ok-kept last k first o h = rw (le-leb _ _ o.status, le-leb _ _ o.number, le-leb _ _ o.some, le-leb _ _ o.few, le-leb _ _ h)
 
 -- ---- numbers
-new-absent : (n : ℕ) (l : List ℕ) → first_index (eqb n) l ≡ length l → Memᴰ n l → ⊥
-new-absent n [] e m = Memᴰ.not-nil m
-new-absent n (x ∷ xs) e (Memᴰ.head q) = let z : ◌≡◌ {A = ℕ} 0 (suc (length xs)) = rw (eq-eqb n x q) at e in absurd (omega arith)
-new-absent n (x ∷ xs) e (Memᴰ.tail m) =
-    on_bool (eqb n x)
-    (λ q. let z : ◌≡◌ {A = ℕ} 0 (suc (length xs)) = rw q at e in absurd (omega arith))
-    (λ q. let z : suc (first_index (eqb n) xs) ≡ suc (length xs) = rw q at e in new-absent n xs (omega arith) m)
+or_right : (a b : Bool) → (a || b) ≡ false → b ≡ false
+or_right true b e = absurd (false≢true (sym e))
+or_right false b e = e
 
-absent-new : (n : ℕ) (l : List ℕ) → (Memᴰ n l → ⊥) → first_index (eqb n) l ≡ length l
+new-absent : (n : ℕ) (l : List ℕ) → list_any (λ m. eqb m n) l ≡ false → Memᴰ n l → ⊥
+new-absent n [] e m = Memᴰ.not-nil m
+new-absent n (x ∷ xs) e (Memᴰ.head q) = clash (rw (eq-eqb x n (sym q)) refl) e
+new-absent n (x ∷ xs) e (Memᴰ.tail m) = new-absent n xs (or_right (eqb x n) _ e) m
+
+absent-new : (n : ℕ) (l : List ℕ) → (Memᴰ n l → ⊥) → list_any (λ m. eqb m n) l ≡ false
 absent-new n [] a = refl
-absent-new n (x ∷ xs) a = on_bool (eqb n x) (λ q. absurd (a (Memᴰ.head (eqb-true n x q)))) (λ q. rw q (ap suc (absent-new n xs (λ m. a (Memᴰ.tail m)))))
+absent-new n (x ∷ xs) a = on_bool (eqb x n) (λ q. absurd (a (Memᴰ.head (sym (eqb-true x n q))))) (λ q. rw q (absent-new n xs (λ m. a (Memᴰ.tail m))))
 
 nodup-apart : (xs : List ℕ) (a : ℕ) (ys : List ℕ) → Nodup (xs ++ (a ∷ ys)) → Memᴰ a xs → ⊥
 nodup-apart [] a ys d x' = elim x' [ ]
@@ -100,20 +97,18 @@ module _ (size : ℕ) where
   Legal n = legal size n ≡ true
 
   numbers-sound : (before ns : List ℕ) → are_numbers size before ns ≡ true → Nodup before → Nodup (before ++ ns) × Every Legal ns
-  unfolding is_new
   numbers-sound before [] e d = (subst Nodup (sym (append-nil before)) d, tt)
   numbers-sound before (n ∷ ns) e d =
       let f = and_right (legal size n) _ e in
-      let new = eqb-true _ _ (and_left (is_new n before) _ f) in
+      let new = not-true _ (and_left (is_new n before) _ f) in
       let ih = numbers-sound (before ++ (n ∷ [])) ns (and_right (is_new n before) _ f) (nodup-snoc before n d (new-absent n before new)) in
       (subst Nodup (append_assoc before (n ∷ []) ns) ih.0, (and_left (legal size n) _ e, ih.1))
 
   numbers-complete : (before ns : List ℕ) → Nodup (before ++ ns) → Every Legal ns → are_numbers size before ns ≡ true
-  unfolding is_new
   numbers-complete before [] d h = refl
   numbers-complete before (n ∷ ns) d h =
       let ih = numbers-complete (before ++ (n ∷ [])) ns (subst Nodup (sym (append_assoc before (n ∷ []) ns)) d) h.1 in
-      rw (h.0, eq-eqb _ _ (absent-new n before (nodup-apart before n ns d)), ih)
+      rw (h.0, absent-new n before (nodup-apart before n ns d), ih)
 
 -- ---- pages
 pub take-octets : (n : ℕ) (l : List ℕ) → Octets l → Octets (take n l)
@@ -142,20 +137,16 @@ pub record Passes (last : ℕ) (s : PlaceState) (ns octets : List ℕ) : Type 0 
 
 module _ (last : ℕ) (ns octets : List ℕ) (long : length ns ≡ 32) (whole : length octets ≡ 1696) where
   rest-numbers : (n : ℕ) → n ≤ 32 → is_rest n ns octets ≡ true → ns ≡ padded 32 (take n ns)
-  unfolding is_rest
   rest-numbers n h e = rest-padded 32 n ns long h (and_left (noughts (drop n ns)) _ e)
 
   rest-octets : (n : ℕ) → n ≤ 32 → is_rest n ns octets ≡ true → octets ≡ padded 1696 (take (n * 53) octets)
-  unfolding is_rest
   rest-octets n h e = rest-padded 1696 (n * 53) octets whole (omega arith) (and_right (noughts (drop n ns)) _ e)
 
   module _ (k : KeyImage) (first n : ℕ) (e : is_open last k first n ns octets ≡ true) (o : Octets octets) where
     kept : is_kept last k first ≡ true
-    unfolding is_open
     kept = and_left (is_kept last k first) _ e
 
     counted : (leb 1 n && (ltb n k.size && (are_numbers k.size [] (take n ns) && is_rest n ns octets))) ≡ true
-    unfolding is_open
     counted = and_right (is_kept last k first) _ e
 
     fewer : (ltb n k.size && (are_numbers k.size [] (take n ns) && is_rest n ns octets)) ≡ true
@@ -206,7 +197,6 @@ module _ (last : ℕ) (ns octets : List ℕ) (long : length ns ≡ 32) (whole : 
         }
 
   pub passes : (s : PlaceState) → is_state last s ns octets ≡ true → Octets octets → Passes last s ns octets
-  unfolding is_done
   passes Free e o =
       record {
         ok = tt;
@@ -227,7 +217,6 @@ module _ (last : ℕ) (ns octets : List ℕ) (long : length ns ≡ 32) (whole : 
 
 -- ---- the image of a place passes
 padded-passes : (n : ℕ) (pages : List Held) (k : Key) → length pages ≡ n → Every (PageOk k) pages → is_rest n (padded 32 (numbers pages)) (padded 1696 (contents pages)) ≡ true
-unfolding is_rest
 padded-passes n pages k e h =
     rw (
       padded-rest 32 n (numbers pages) (numbers-length pages ∙ e),
@@ -235,11 +224,9 @@ padded-passes n pages k e h =
     )
 
 none_passes : is_rest 0 (padded 32 []) (padded 1696 []) ≡ true
-unfolding is_rest
 none_passes = rw (padded-rest 32 0 [] refl, padded-rest 1696 0 [] refl)
 
 state-passes : (last : ℕ) (p : Place) → PlaceOk p → FirstIs (λ first. first ≤ last) p → is_state last (place_image p).state (place_image p).numbers (part p) ≡ true
-unfolding is_open is_done
 state-passes last free o h = none_passes
 state-passes last (waiting k first pages) o h =
     let legal-numbers : are_numbers k.size [] (take (length pages) (padded 32 (numbers pages))) ≡ true =

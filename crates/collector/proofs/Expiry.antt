@@ -2,12 +2,12 @@
 -- The code expires one place after another: after i turns the first i places are expired.
 use mathlib.Core.Bool.{true, false}
 use mathlib.Core.Path.{◌≡◌, refl, sym, ap, ap₂, ◌∙◌, subst}
-use mathlib.Core.List.{List, [], ◌∷◌, ◌++◌, map, append-nil}
-use Prim.Native.Nat.{ℕ, zero, suc, ◌+◌, ◌*◌, ◌≤◌, ◌<◌}
+use mathlib.Core.List.{List, [], ◌∷◌, ◌++◌, map}
+use Prim.Native.Nat.{ℕ, zero, suc, ◌+◌, ◌*◌, ◌<◌}
 use native.Mathlib.Numerals.{add-one}
 use native.Mathlib.Omega.{arith}
-use lib.ListN.{length, get_or, set, take, drop, replicate, length-set, drop_of_length-le}
-use lib.Seq.{set-get_or, take_all}
+use lib.ListN.{length, get_or, set, take, drop, replicate, length-set}
+use lib.Seq.{set-get_or}
 use Rattle.collector.specs.declared.state.Place.{Place as PlaceImage}
 use Rattle.collector.specs.Place.{Place, free, waiting, done, expire}
 use Rattle.collector.specs.Valid.{PlaceOk}
@@ -77,8 +77,3 @@ module _ (timeout t : ℕ) where
 
   pub first_next : (i : ℕ) (ps : List Place) → expire_at timeout t i (expire_first i ps) ≡ expire_first (i + 1) ps
   first_next i ps = first-suc i ps ∙ ap (λ (n : ℕ). expire_first n ps) (sym (add-one i))
-
-  pub first-all : (i : ℕ) (ps : List Place) → length ps ≤ i → expire_first i ps ≡ map (expire timeout t) ps
-  first-all i ps h =
-      ap₂ (λ (a b : List Place). map (expire timeout t) a ++ b) (take_all i ps h) (drop_of_length-le ps {i = i} h)
-      ∙ append-nil (map (expire timeout t) ps)

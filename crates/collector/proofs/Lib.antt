@@ -21,6 +21,7 @@ pub mod Refusals
 pub mod Examples
 -- A loop of the code that looks; tests
 mod Search
+pub mod Copied
 mod Tests
 -- What the code holds
 mod Headers

@@ -1,15 +1,17 @@
 -- Where a page comes to: the first place that has its key, else the lowest free one; and what the code sees of that place.
 -- An index found by a search is the one at which `find` reads and `replace` writes, and a place's image tells its case.
-use mathlib.Core.Bool.{Bool, true, false, cond}
+use mathlib.Core.Bool.{Bool, true, false, not, cond}
 use mathlib.Core.List.Memᴰ
 use mathlib.Core.List.{List, [], ◌∷◌, ◌++◌, map}
 use mathlib.Core.Option.{none, some}
 use mathlib.Core.Path.{◌≡◌, refl, sym, ap, ap₂, ◌∙◌, subst}
-use Prim.Native.Nat.{ℕ, suc, ◌+◌, ◌*◌, ◌≤◌, ◌<◌}
+use Prim.Native.Nat.{ℕ, ◌+◌, ◌*◌, ◌≤◌, ◌<◌}
 use native.Mathlib.Omega.{arith}
-use lib.Dec.{eqb}
-use lib.ListN.{length, get_or, set, take, drop}
+use lib.Dec.{eqb, ltb}
+use lib.ListN.{length, get_or, set, take, drop, length-map}
 use lib.Seq.{set-get_or}
+use Rattle.std.specs.Prelude.{Result, Err, Some, None}
+use Rattle.std.specs.List.{position, position_or_len}
 use Rattle.refusal.specs.declared.Refusal.{Refusal}
 use Rattle.refusal.specs.declared.Refusal.TheVariants.{Done, Repeat, Conflict, Full}
 use Rattle.pagecode.specs.Field.{Octets}
@@ -17,36 +19,40 @@ use Rattle.collector.specs.declared.state.Key.{Key as KeyImage}
 use Rattle.collector.specs.declared.state.PlaceState.TheVariants as state
 use Rattle.collector.specs.declared.state.Place.{Place as PlaceImage}
 use Rattle.collector.specs.declared.state.Head.{Head}
-use Rattle.collector.specs.declared.state.Fed.TheVariants.{Refused}
-use Rattle.collector.specs.declared.state.FedHead.{FedHead}
+use Rattle.collector.specs.declared.state.Fed.{Fed}
 use Rattle.collector.specs.Lists.{Nodup}
 use Rattle.collector.specs.Place.{Key, Held, Place, free, waiting, done, same_key, has_key, is_free, find, any_free, replace, pages_in, lookup, numbers}
 use Rattle.collector.specs.Feed.{Collector, Step, refused, Settled, key_of, held_of, judge, good, same_octets, grow, again, arrive, hold}
 use Rattle.collector.specs.Valid.{KeyOk, PageOk, OpenOk, PlaceOk}
 use Rattle.collector.specs.Image.{padded, key_image, state_image, place_image}
-use Rattle.collector.specs.Steps.{first_index, state_free, same_key_image, state_has_key, State, Does, settled_at, Keeping}
+use Rattle.collector.specs.Steps.{state_free, state_has_key, State, Does, settled_at, Keeping}
 use Rattle.lists.proofs.Tests.{on_bool}
 use Rattle.collector.proofs.Lists.{nodup-snoc, every-snoc, map_get, every_get}
 use Rattle.collector.proofs.Places.{same_true, keyed-free, is_free_lem, numbers-snoc, numbers-length}
 use Rattle.collector.proofs.Keeps.{JudgedOk, judge-ok, absent-number, hold-full}
 use Rattle.collector.proofs.PageCode.{long-pages}
 use Rattle.collector.proofs.Headers.{page-is}
-use Rattle.collector.proofs.Images.{numbers-front, store-whole, store-page, roomy-places}
+use Rattle.collector.proofs.Images.{padded-length, numbers-front, store-whole, store-page, roomy-places}
+use Rattle.collector.proofs.Search.{first_index, at-some, at-none}
 
 -- ---- the first element of which a test holds
 module _ {A : Type 0} (is : A → Bool) where
-  pub first-le : (l : List A) → first_index is l ≤ length l
-  first-le [] = omega arith
-  first-le (x ∷ xs) = let ih = first-le xs in on_bool (is x) (λ e. rw e (omega arith)) (λ e. rw e (omega arith))
-
   first-is : (l : List A) (z : A) → first_index is l < length l → is (get_or l (first_index is l) z) ≡ true
   first-is [] z = λ h. absurd (omega arith)
   first-is (x ∷ xs) z = on_bool (is x) (λ e. rw e (λ h. e)) (λ e. rw e (λ h. first-is xs z (omega arith)))
 
+  found-is : (l : List A) (z : A) (i : ℕ) → Some i ≡ position is l → is (get_or l i z) ≡ true
+  found-is l z i e =
+      let (f, h) = at-some is l i e in
+      ap (λ (n : ℕ). is (get_or l n z)) f ∙ first-is l z (omega arith)
+
   -- seen through an image on which another test says the same
-  first-map : {B : Type 0} (f : A → B) (was : B → Bool) → ((a : A) → was (f a) ≡ is a) → (l : List A) → first_index was (map f l) ≡ first_index is l
+  first-map : {B : Type 0} (f : A → B) (was : B → Bool) → ((a : A) → was (f a) ≡ is a) → (l : List A) → position_or_len was (map f l) ≡ position_or_len is l
   first-map f was s [] = refl
-  first-map f was s (x ∷ xs) = ap₂ (λ (b : Bool) (n : ℕ). cond b 0 (suc n)) (s x) (first-map f was s xs)
+  first-map f was s (x ∷ xs) = ap₂ (λ (b : Bool) (n : ℕ). cond (not b) (1 + n) 0) (s x) (first-map f was s xs)
+
+  position-map : {B : Type 0} (f : A → B) (was : B → Bool) → ((a : A) → was (f a) ≡ is a) → (l : List A) → position was (map f l) ≡ position is l
+  position-map f was s l = ap₂ (λ (m k : ℕ). cond (ltb m k) (Some m) None) (first-map f was s l) (length-map l f)
 
 -- ---- places: `find`, `replace` and `any_free` by the index
 find_first : (k : Key) (ps : List Place) → find k ps ≡ get_or ps (first_index (has_key k) ps) free
@@ -79,29 +85,31 @@ lookup-some n [] z = λ h. absurd (omega arith)
 lookup-some n (p ∷ ps) z = on_bool (eqb n p.number) (λ e. rw e (λ h. refl)) (λ e. rw e (λ h. lookup-some n ps z (omega arith)))
 
 -- ---- `hold` by the index
-pub met : (k : Key) (ps : List Place) (i : ℕ) → i ≡ first_index (has_key k) ps → i < length ps → has_key k (get_or ps i free) ≡ true
-met k ps i e h = ap (λ (n : ℕ). has_key k (get_or ps n free)) e ∙ first-is (has_key k) ps free (omega arith)
+pub met : (k : Key) (ps : List Place) (i : ℕ) → Some i ≡ position (has_key k) ps → has_key k (get_or ps i free) ≡ true
+met k ps i e = found-is (has_key k) ps free i e
 
 module _ (c : Collector) (t : ℕ) (k : Key) (p : Held) where
-  pub hold-met : (i : ℕ) → i ≡ first_index (has_key k) c.places → i < length c.places → hold c t k p ≡ settled_at c i (arrive (get_or c.places i free) k t p)
+  pub hold-met : (i : ℕ) → Some i ≡ position (has_key k) c.places → hold c t k p ≡ settled_at c i (arrive (get_or c.places i free) k t p)
   unfolding hold
-  hold-met i e h =
-      let f : find k c.places ≡ get_or c.places i free = find_first k c.places ∙ ap (λ (n : ℕ). get_or c.places n free) (sym e) in
-      let s : is_free (get_or c.places i free) ≡ false = keyed-free k (get_or c.places i free) (met k c.places i e h) in
-      rw (f, s, replace-first (has_key k) (arrive (get_or c.places i free) k t p).place c.places, sym e)
+  hold-met i e =
+      let at = at-some (has_key k) c.places i e in
+      let f : find k c.places ≡ get_or c.places i free = find_first k c.places ∙ ap (λ (n : ℕ). get_or c.places n free) (sym at.0) in
+      let s : is_free (get_or c.places i free) ≡ false = keyed-free k (get_or c.places i free) (met k c.places i e) in
+      rw (f, s, replace-first (has_key k) (arrive (get_or c.places i free) k t p).place c.places, sym at.0)
 
-  pub hold-new : (i : ℕ) → first_index (has_key k) c.places ≡ length c.places → i ≡ first_index is_free c.places → i < length c.places
-      → hold c t k p ≡ settled_at c i (grow k t (p ∷ []))
-  unfolding hold arrive
-  hold-new i n e h = rw (find_none k c.places n, any_some c.places (omega arith), replace-first is_free (grow k t (p ∷ [])).place c.places, sym e)
+  module _ (n : None ≡ position (has_key k) c.places) where
+    pub hold-new : (i : ℕ) → Some i ≡ position is_free c.places → hold c t k p ≡ settled_at c i (grow k t (p ∷ []))
+    unfolding hold arrive
+    hold-new i e =
+        let at = at-some is_free c.places i e in
+        rw (find_none k c.places (at-none (has_key k) c.places n), any_some c.places (omega (arith, at.0, at.1)), replace-first is_free (grow k t (p ∷ [])).place c.places, sym at.0)
 
-  pub hold-none : first_index (has_key k) c.places ≡ length c.places → first_index is_free c.places ≡ length c.places
-      → hold c t k p ≡ record { answer = refused Full; after = c }
-  hold-none n m = hold-full c t k p (ap is_free (find_none k c.places n)) (any_none c.places m)
+    pub hold-none : None ≡ position is_free c.places → hold c t k p ≡ record { answer = refused Full; after = c }
+    hold-none m = hold-full c t k p (ap is_free (find_none k c.places (at-none (has_key k) c.places n))) (any_none c.places (at-none is_free c.places m))
 
 -- ---- what the code sees of a place
 pub key-image : (k : Key) (p : Place) → state_has_key (key_image k) (place_image p).state ≡ has_key k p
-unfolding same_key same_key_image
+unfolding same_key
 key-image k free = refl
 key-image k (waiting j first pages) = refl
 key-image k (done j first) = refl
@@ -133,14 +141,21 @@ pub record Seen (p : Place) (j : KeyImage) (first n : ℕ) (ns : List ℕ) : Typ
 pub seen_few : {p : Place} {j : KeyImage} {first n : ℕ} {ns : List ℕ} → Seen p j first n ns → n < 32
 seen_few w = omega (arith, w.count, w.ok.few, w.ok.key.few)
 
+-- so many numbers are there
+pub seen_there : {p : Place} {j : KeyImage} {first n : ℕ} {ns : List ℕ} → Seen p j first n ns → n ≤ length ns
+seen_there w =
+    let few = seen_few w in
+    let many = numbers-length w.pages in
+    omega (arith, few, ap length w.numbers ∙ padded-length 32 (numbers w.pages) (omega (arith, few, many, w.count)))
+
 image-open : (p : Place) (j : KeyImage) (first n : ℕ) → PlaceOk p → state_image p ≡ state.Open j first n → Seen p j first n (padded 32 (numbers (pages_in p)))
 image-open free j first n o e = let z : ◌≡◌ {A = ℕ} 0 1 = cc in absurd (omega arith)
 image-open (waiting k f pages) j first n o e = record { of = k; pages = pages; place = cc; key = cc; count = cc; numbers = refl; ok = o }
 image-open (done k f) j first n o e = let z : ◌≡◌ {A = ℕ} 0 1 = cc in absurd (omega arith)
 
 -- ---- a head and a store that hold c
-pub does_as : {x y : Step} {before : List ℕ} {r : FedHead} {octets after : List ℕ} → x ≡ y → Does y before r octets after → Does x before r octets after
-does_as {before} {r} {octets} {after} e d = subst (λ (z : Step). Does z before r octets after) (sym e) d
+pub does_as : {x y : Step} {before : List ℕ} {a : Result Fed Refusal} {head : Head} {octets after : List ℕ} → x ≡ y → Does y before a head octets after → Does x before a head octets after
+does_as {before} {a} {head} {octets} {after} e d = subst (λ (z : Step). Does z before a head octets after) (sym e) d
 
 module _ {c : Collector} {head : Head} {octets : List ℕ} (s : State c head octets) where
   places-are : head.places ≡ map place_image c.places
@@ -150,15 +165,15 @@ module _ {c : Collector} {head : Head} {octets : List ℕ} (s : State c head oct
   store_long = ap length s.store ∙ store-whole c.places s.valid.eight s.valid.each
 
   -- the searches of the code
-  pub key-first : (j : KeyImage) (k : Key) → j ≡ key_image k → first_index (λ (p : PlaceImage). state_has_key j p.state) head.places ≡ first_index (has_key k) c.places
+  pub key-first : (j : KeyImage) (k : Key) → j ≡ key_image k → position (λ (p : PlaceImage). state_has_key j p.state) head.places ≡ position (has_key k) c.places
   key-first j k e =
-      ap₂ (λ (x : KeyImage) (l : List PlaceImage). first_index (λ (p : PlaceImage). state_has_key x p.state) l) e places-are
-      ∙ first-map (has_key k) place_image (λ (p : PlaceImage). state_has_key (key_image k) p.state) (key-image k) c.places
+      ap₂ (λ (x : KeyImage) (l : List PlaceImage). position (λ (p : PlaceImage). state_has_key x p.state) l) e places-are
+      ∙ position-map (has_key k) place_image (λ (p : PlaceImage). state_has_key (key_image k) p.state) (key-image k) c.places
 
-  pub free-first : first_index (λ (p : PlaceImage). state_free p.state) head.places ≡ first_index is_free c.places
+  pub free-first : position (λ (p : PlaceImage). state_free p.state) head.places ≡ position is_free c.places
   free-first =
-      ap (first_index (λ (p : PlaceImage). state_free p.state)) places-are
-      ∙ first-map is_free place_image (λ (p : PlaceImage). state_free p.state) free-image c.places
+      ap (position (λ (p : PlaceImage). state_free p.state)) places-are
+      ∙ position-map is_free place_image (λ (p : PlaceImage). state_free p.state) free-image c.places
 
   -- place i
   module _ (i : ℕ) (h : i < 8) where
@@ -178,13 +193,13 @@ module _ {c : Collector} {head : Head} {octets : List ℕ} (s : State c head oct
         (image-open (get_or c.places i free) j first n (every_get PlaceOk c.places i free s.valid.each tt) (sym (ap (λ (p : PlaceImage). p.state) at) ∙ e))
 
   -- a refusal that changes nothing
-  module _ (why : Refusal) (out : List ℕ) (r : FedHead) (e : r ≡ record { answer = Refused why; head = head }) where
-    pub refuses : Does (record { answer = refused why; after = c }) out r octets out
-    refuses = record { answer = ap (λ (x : FedHead). x.answer) e; head = ap (λ (x : FedHead). x.head) e ∙ s.head; store = s.store; buffer = refl }
+  module _ (why : Refusal) (out : List ℕ) where
+    pub refuses : Does (record { answer = refused why; after = c }) out (Err why) head octets out
+    refuses = record { answer = refl; head = s.head; store = s.store; buffer = refl }
 
-    pub refuses-at : (i : ℕ) (a : Settled) → a ≡ record { answer = refused why; place = get_or c.places i free } → Does (settled_at c i a) out r octets out
+    pub refuses-at : (i : ℕ) (a : Settled) → a ≡ record { answer = refused why; place = get_or c.places i free } → Does (settled_at c i a) out (Err why) head octets out
     refuses-at i a q =
-        subst (λ (x : Step). Does x out r octets out)
+        subst (λ (x : Step). Does x out (Err why) head octets out)
         (sym (ap (settled_at c i) q ∙ ap (λ (ps : List Place). record { answer = refused why; after = record { timeout = c.timeout; last = c.last; places = ps } }) (set-get_or c.places i free)))
         refuses
 
@@ -205,55 +220,51 @@ module _ (page : List ℕ) (o : Octets page) (long : length page ≡ 56) (g : ju
 
   -- it opens a free place
   module _ {c : Collector} {head : Head} {octets : List ℕ} (s : State c head octets) where
-    pub opening : (i : ℕ) (j : KeyImage) (ns : List ℕ) (room : ℕ) → i ≡ first_index is_free c.places → i < 8 → j ≡ key_image (key_of page) → ns ≡ padded 32 [] → room ≡ 1696
-        → Keeping c (key_of page) [] head octets i j 0 ns page room
-    opening i j ns room e h k n r =
+    pub opening : (i : ℕ) (j : KeyImage) (t : ℕ) (ns : List ℕ) → Some i ≡ position is_free c.places → j ≡ key_image (key_of page) → ns ≡ padded 32 []
+        → Keeping c (key_of page) [] head octets i (record { key = j; first = t; count = 0; numbers = ns }) page
+    opening i j t ns e k n =
         record {
           state = s;
-          at = h;
-          held = ap pages_in (is_free_lem (get_or c.places i free) (ap (λ (m : ℕ). is_free (get_or c.places m free)) e ∙ first-is is_free c.places free (omega (arith, s.valid.eight))));
+          at = omega (arith, (at-some is_free c.places i e).1, s.valid.eight);
+          held = ap pages_in (is_free_lem (get_or c.places i free) (found-is is_free c.places free i e));
           key = k;
           count = refl;
           few = sound.0.some;
           numbers = n;
           together = record { key = sound.0; differ = ((λ m. Memᴰ.not-nil m), tt); each = (sound.1, tt) };
-          long = long;
-          room = r;
         }
 
   -- it comes to an open place that has its key
   module _ {c : Collector} {head : Head} {octets : List ℕ} (s : State c head octets) (i : ℕ) (h : i < 8) (same : has_key (key_of page) (get_or c.places i free) ≡ true)
       {j : KeyImage} {first n : ℕ} {ns : List ℕ} (w : Seen (get_or c.places i free) j first n ns) where
-    index_is : (m : ℕ) → m ≡ first_index (eqb (get_or page 2 0)) (take n ns) → m ≡ first_index (eqb (held_of page).number) (numbers w.pages)
-    index_is m e =
-        e
-        ∙ ap₂ (λ (x : ℕ) (l : List ℕ). first_index (eqb x) l) (sym (page-is page o)) (ap₂ (λ (x : ℕ) (l : List ℕ). take x l) w.count w.numbers ∙ numbers-front 32 w.pages)
+    looked : position (eqb (get_or page 2 0)) (take n ns) ≡ position (eqb (held_of page).number) (numbers w.pages)
+    looked = ap₂ (λ (x : ℕ) (l : List ℕ). position (eqb x) l) (sym (page-is page o)) (ap₂ (λ (x : ℕ) (l : List ℕ). take x l) w.count w.numbers ∙ numbers-front 32 w.pages)
 
-    new : n ≡ first_index (eqb (get_or page 2 0)) (take n ns) → lookup (held_of page).number w.pages ≡ none
-    new e = lookup-none (held_of page).number w.pages (sym (index_is n e) ∙ w.count)
+    new : None ≡ position (eqb (get_or page 2 0)) (take n ns) → lookup (held_of page).number w.pages ≡ none
+    new e = lookup-none (held_of page).number w.pages (at-none (eqb (held_of page).number) (numbers w.pages) (e ∙ looked) ∙ numbers-length w.pages)
 
-    pub found_lt : (m : ℕ) → m ≡ first_index (eqb (get_or page 2 0)) (take n ns) → (m ≡ n → ⊥) → m < n
-    found_lt m e ne =
-        let l = first-le (eqb (held_of page).number) (numbers w.pages) in
-        let under : m ≤ n = omega (arith, l, index_is m e, numbers-length w.pages, w.count) in
-        omega (arith, under, ne)
+    module _ (m : ℕ) (e : Some m ≡ position (eqb (get_or page 2 0)) (take n ns)) where
+      at-number : (m ≡ first_index (eqb (held_of page).number) (numbers w.pages)) × (m < length (numbers w.pages))
+      at-number = at-some (eqb (held_of page).number) (numbers w.pages) m (e ∙ looked)
 
-    old : (m : ℕ) → m ≡ first_index (eqb (get_or page 2 0)) (take n ns) → (m ≡ n → ⊥)
-        → lookup (held_of page).number w.pages ≡ some (take 53 (drop (i * 1696 + m * 53) octets))
-    old m e ne =
-        let lt : m < length w.pages = omega (arith, found_lt m e ne, w.count) in
-        lookup-some (held_of page).number w.pages (held_of page) (omega (arith, lt, index_is m e))
-        ∙ ap (λ (x : ℕ). some (get_or w.pages x (held_of page)).content) (sym (index_is m e))
-        ∙ ap some (sym (
-        ap (λ (l : List ℕ). take 53 (drop (i * 1696 + m * 53) l)) s.store
-        ∙ store-page c.places i w.pages (roomy-places c.places s.valid.each) (omega (arith, s.valid.eight)) (ap pages_in w.place) (long-pages w.of w.pages w.ok.each) m (held_of page) lt
-        ))
+      pub found_lt : m < n
+      found_lt = omega (arith, at-number.1, numbers-length w.pages, w.count)
+
+      old : lookup (held_of page).number w.pages ≡ some (take 53 (drop (i * 1696 + m * 53) octets))
+      old =
+          let lt : m < length w.pages = omega (arith, found_lt, w.count) in
+          lookup-some (held_of page).number w.pages (held_of page) (omega (arith, lt, at-number.0))
+          ∙ ap (λ (x : ℕ). some (get_or w.pages x (held_of page)).content) (sym at-number.0)
+          ∙ ap some (sym (
+          ap (λ (l : List ℕ). take 53 (drop (i * 1696 + m * 53) l)) s.store
+          ∙ store-page c.places i w.pages (roomy-places c.places s.valid.each) (omega (arith, s.valid.eight)) (ap pages_in w.place) (long-pages w.of w.pages w.ok.each) m (held_of page) lt
+          ))
 
     page-ok : PageOk w.of (held_of page)
     page-ok = subst (λ (k : Key). PageOk k (held_of page)) (same_true (key_of page) w.of (sym (ap (has_key (key_of page)) w.place) ∙ same)) sound.1
 
-    pub joining : (room : ℕ) → n ≡ first_index (eqb (get_or page 2 0)) (take n ns) → room ≡ 1696 → Keeping c w.of w.pages head octets i j n ns page room
-    joining room e r =
+    pub joining : None ≡ position (eqb (get_or page 2 0)) (take n ns) → Keeping c w.of w.pages head octets i (record { key = j; first = first; count = n; numbers = ns }) page
+    joining e =
         record {
           state = s;
           at = h;
@@ -270,16 +281,14 @@ module _ (page : List ℕ) (o : Octets page) (long : length page ≡ 56) (g : ju
                     (nodup-snoc (numbers w.pages) (held_of page).number w.ok.differ (absent-number (held_of page).number w.pages (new e)));
                 each = every-snoc (PageOk w.of) w.pages (held_of page) w.ok.each page-ok;
               };
-          long = long;
-          room = r;
         }
 
-    pub arrive-new : (t : ℕ) → n ≡ first_index (eqb (get_or page 2 0)) (take n ns)
+    pub arrive-new : (t : ℕ) → None ≡ position (eqb (get_or page 2 0)) (take n ns)
         → arrive (get_or c.places i free) (key_of page) t (held_of page) ≡ grow w.of first (w.pages ++ (held_of page ∷ []))
     unfolding arrive again
     arrive-new t e = rw (w.place, new e)
 
-    pub arrive-again : (t m : ℕ) (b : Bool) → m ≡ first_index (eqb (get_or page 2 0)) (take n ns) → (m ≡ n → ⊥) → b ≡ same_octets (take 53 (drop (i * 1696 + m * 53) octets)) (drop 3 page)
+    pub arrive-again : (t m : ℕ) (b : Bool) → Some m ≡ position (eqb (get_or page 2 0)) (take n ns) → b ≡ same_octets (take 53 (drop (i * 1696 + m * 53) octets)) (drop 3 page)
         → arrive (get_or c.places i free) (key_of page) t (held_of page) ≡ record { answer = refused (cond b Repeat Conflict); place = get_or c.places i free }
     unfolding arrive again
-    arrive-again t m b e ne q = rw (w.place, old m e ne, sym q)
+    arrive-again t m b e q = rw (w.place, old m e, sym q)

@@ -1,55 +1,71 @@
--- A loop that looks at a list from the front: for the first element of which a test holds, or for a difference from another list.
--- What it passed does not decide, so the answer is that of what is left.
-use mathlib.Core.Path.{◌≡◌, sym, ap, ap₂, ◌∙◌}
-use mathlib.Core.Bool.{Bool, true, false, ◌&&◌}
-use mathlib.Core.List.{List, ◌∷◌}
+-- What the library's searches and comparisons say, in the words of the collector: the first element of which a test holds, and a difference of two lists of octets.
+-- By induction on the list.
+use mathlib.Core.Path.{◌≡◌, refl, sym, ap, ◌∙◌, subst}
+use mathlib.Core.Bool.{Bool, true, ◌&&◌, cond}
+use mathlib.Core.List.{List, [], ◌∷◌}
 use Prim.Native.Nat.{ℕ, suc, ◌+◌, ◌≤◌, ◌<◌}
 use native.Mathlib.Numerals.{add-one}
 use native.Mathlib.Omega.{arith}
-use lib.Dec.{eqb}
-use lib.ListN.{length, get_or, drop, drop_of_length-le}
+use lib.Dec.{eqb, ltb}
+use lib.ListN.{length, get_or, drop}
 use lib.Seq.{drop-cons}
-use borrow.Author.Tests.{eq-eqb, ne_eqb}
+use borrow.Author.Tests.{ltb-true, ltb-false}
+use Rattle.std.specs.Prelude.{Some, None}
+use Rattle.std.specs.List.{position, position_or_len, list_all, enumerate_from}
+use Rattle.std.specs.Cmp.Lexicographic.{pointwise}
+use Rattle.lists.proofs.Tests.{on_bool}
 use Rattle.collector.specs.Feed.{same_octets}
-use Rattle.collector.specs.Steps.{first_index}
 
 -- the list from a place on is the element there and the list behind it
 pub front : {A : Type 0} (z : A) (l : List A) (i : ℕ) → i < length l → drop i l ≡ get_or l i z ∷ drop (i + 1) l
 front z l i h = drop-cons l i z h ∙ ap (λ n. get_or l i z ∷ drop n l) (sym (add-one i))
 
--- ---- the first element of which a test holds: `Passed i` says that of the elements before i it holds of none
-module _ {A : Type 0} (is : A → Bool) (l : List A) where
-  abbrev pub Passed : ℕ → Type 0
-  Passed i = first_index is l ≡ i + first_index is (drop i l)
+-- ---- the place of the first element of which a test holds; the length if there is none
+abbrev pub first_index : {A : Type 0} → (A → Bool) → List A → ℕ
+first_index is [] = 0
+first_index is (x ∷ xs) = cond (is x) 0 (suc (first_index is xs))
 
-  pub passed_none : Passed 0
-  passed_none = omega arith
+module _ {A : Type 0} (is : A → Bool) where
+  pub first-le : (l : List A) → first_index is l ≤ length l
+  first-le [] = omega arith
+  first-le (x ∷ xs) = let ih = first-le xs in on_bool (is x) (λ e. rw e (omega arith)) (λ e. rw e (omega arith))
 
-  pub found : (i : ℕ) (d : A) → i < length l → Passed i → is (get_or l i d) ≡ true → i ≡ first_index is l
-  found i d h p e =
-      let here : first_index is (drop i l) ≡ 0 = rw (drop-cons l i d h, e) in
-      omega arith
+  first-position : (l : List A) → position_or_len is l ≡ first_index is l
+  first-position [] = refl
+  first-position (x ∷ xs) = let ih = first-position xs in on_bool (is x) (λ e. rw e refl) (λ e. rw e (omega arith))
 
-  pub passed-next : (i : ℕ) (d : A) → i < length l → Passed i → is (get_or l i d) ≡ false → Passed (i + 1)
-  passed-next i d h p e =
-      let on : first_index is (drop i l) ≡ suc (first_index is (drop (i + 1) l)) = rw (add-one, drop-cons l i d h, e) in
-      omega arith
+  -- what `position` answers
+  pub at-some : (l : List A) (i : ℕ) → Some i ≡ position is l → (i ≡ first_index is l) × (i < length l)
+  at-some l i =
+      on_bool (ltb (position_or_len is l) (length l))
+      (λ e. rw e (λ h. let p : i ≡ position_or_len is l = cc in (p ∙ first-position l, omega (arith, p, ltb-true _ _ e))))
+      (λ e. rw e (λ h. absurd (cc)))
 
-  pub passed-all : (i : ℕ) → length l ≤ i → Passed i → i ≡ first_index is l
-  passed-all i h p =
-      let none_left : first_index is (drop i l) ≡ 0 = rw (drop_of_length-le l {i = i} h) in
-      omega arith
+  pub at-none : (l : List A) → None ≡ position is l → first_index is l ≡ length l
+  at-none l =
+      on_bool (ltb (position_or_len is l) (length l))
+      (λ e. rw e (λ h. absurd (cc)))
+      (λ e. rw e (λ h. omega (arith, first-position l, first-le l, ltb-false _ _ e)))
 
--- ---- a difference of two lists of octets
-module _ (a b : List ℕ) (i : ℕ) where
-  same_ahead : i < length a → i < length b → same_octets (drop i a) (drop i b) ≡ (eqb (get_or a i 0) (get_or b i 0) && same_octets (drop (i + 1) a) (drop (i + 1) b))
-  same_ahead h k = ap₂ same_octets (front 0 a i h) (front 0 b i k)
+-- ---- `all` over the elements with their places: `left i` is what is asked of those from i on
+each-all : {X : Type 0} (test : ℕ × X → Bool) (left : ℕ → Bool) (d : X) (xs : List X) (k : ℕ)
+    → ((i j : ℕ) → j ≡ k + i → i < length xs → left j ≡ (test (j, get_or xs i d) && left (j + 1))) → ((j : ℕ) → j ≡ k + length xs → left j ≡ true)
+    → list_all test (enumerate_from k xs) ≡ left k
+each-all test left d [] k next end = sym (end k (omega arith))
+each-all test left d (x ∷ xs) k next end =
+    ap (λ (b : Bool). test (k, x) && b) (each-all test left d xs (k + 1) (λ i j e h. next (suc i) j (omega arith) (omega arith)) (λ j e. end j (omega arith)))
+    ∙ sym (next 0 k (omega arith) (omega arith))
 
-  pub same-differ : i < length a → i < length b → (get_or a i 0 ≡ get_or b i 0 → ⊥) → same_octets (drop i a) (drop i b) ≡ false
-  same-differ h k e = same_ahead h k ∙ ap (λ (t : Bool). t && same_octets (drop (i + 1) a) (drop (i + 1) b)) (ne_eqb _ _ e)
+pub all-from : {X : Type 0} (test : ℕ × X → Bool) (left : ℕ → Bool) (d : X) (xs : List X)
+    → ((i : ℕ) → i < length xs → left i ≡ (test (i, get_or xs i d) && left (i + 1))) → left (length xs) ≡ true → list_all test (enumerate_from 0 xs) ≡ left 0
+all-from test left d xs next end =
+    each-all test left d xs 0
+    (λ i j e h. let q : i ≡ j = omega arith in subst (λ (n : ℕ). left n ≡ (test (n, get_or xs i d) && left (n + 1))) q (next i h))
+    (λ j e. let q : j ≡ length xs = omega arith in ap left q ∙ end)
 
-  pub same_next : i < length a → i < length b → get_or a i 0 ≡ get_or b i 0 → same_octets (drop i a) (drop i b) ≡ same_octets (drop (i + 1) a) (drop (i + 1) b)
-  same_next h k e = same_ahead h k ∙ ap (λ (t : Bool). t && same_octets (drop (i + 1) a) (drop (i + 1) b)) (eq-eqb _ _ e)
-
-  pub same_none : length a ≤ i → length b ≤ i → same_octets (drop i a) (drop i b) ≡ true
-  same_none h k = ap₂ same_octets (drop_of_length-le a {i = i} h) (drop_of_length-le b {i = i} k)
+-- ---- `==` on octets
+pub same-pointwise : (xs ys : List ℕ) → pointwise eqb xs ys ≡ same_octets xs ys
+same-pointwise [] [] = refl
+same-pointwise [] (y ∷ ys) = refl
+same-pointwise (x ∷ xs) [] = refl
+same-pointwise (x ∷ xs) (y ∷ ys) = ap (λ (b : Bool). eqb x y && b) (same-pointwise xs ys)

@@ -9,7 +9,7 @@ use borrow.Author.Tests.{leb-true}
 use lib.Dec.{leb}
 use lib.ListN.{replicate}
 use Rattle.refusal.specs.declared.Refusal.TheVariants.{Timeout}
-use Rattle.pagecode.specs.declared.Answer.TheVariants.{Good, Refused}
+use Rattle.std.specs.Prelude.{Ok, Err}
 use Rattle.collector.specs.declared.state.Place.{Place as PlaceImage}
 use Rattle.collector.specs.declared.state.Collector.{Collector as CollectorImage}
 use Rattle.collector.specs.Place.{free}
@@ -33,11 +33,11 @@ module _ (timeout : ℕ) where
       (λ e. rw e (λ h. absurd (false≢true h)))
 
   pub starts : (r : CollectorImage) → startable timeout ≡ true → r ≡ collector_image (fresh timeout)
-      → (Good ≡ start_answer timeout) × (r ≡ collector_image (begun timeout)) × Made r
+      → (Ok tt ≡ start_answer timeout) × (r ≡ collector_image (begun timeout)) × Made r
   unfolding start_answer begun
   starts r s e = let h = in-range s in rw s (refl, e, (fresh timeout, valid-fresh timeout h.0 h.1, e))
 
   pub starts-not : (r : CollectorImage) → startable timeout ≡ false → r ≡ collector_image (fresh 1)
-      → (Refused Timeout ≡ start_answer timeout) × (r ≡ collector_image (begun timeout)) × Made r
+      → (Err Timeout ≡ start_answer timeout) × (r ≡ collector_image (begun timeout)) × Made r
   unfolding start_answer begun
   starts-not r s e = rw s (refl, e, (fresh 1, valid-fresh 1 (omega arith) (omega arith), e))

@@ -7,6 +7,7 @@ use native.Mathlib.Omega.{arith}
 use borrow.Author.Tests.{lt-ltb, le-ltb, eq-eqb, ne_eqb}
 use lib.Dec.{eqb}
 use lib.ListN.{length, replicate, replicate-append-replicate}
+use Rattle.std.specs.Prelude.{Result, Ok, Err}
 use Rattle.refusal.specs.declared.Refusal.{Refusal}
 use Rattle.refusal.specs.declared.Refusal.TheVariants.{Length, Out, Second, Clock, Stop as Stopped}
 use Rattle.pagecode.specs.Field.{Octets}
@@ -15,9 +16,8 @@ use Rattle.collector.specs.declared.state.Key.{Key as KeyImage}
 use Rattle.collector.specs.declared.state.Place.{Place as PlaceImage}
 use Rattle.collector.specs.declared.state.Head.{Head}
 use Rattle.collector.specs.declared.state.Collector.{Collector as CollectorImage}
-use Rattle.collector.specs.declared.state.Fed.TheVariants.{Refused}
-use Rattle.collector.specs.declared.state.FedHead.{FedHead}
-use Rattle.collector.specs.declared.header.Judged.TheVariants.{Bad, Stop, Good}
+use Rattle.collector.specs.declared.state.Fed.{Fed}
+use Rattle.collector.specs.declared.header.Judged.TheVariants.{Stop, Hold as HoldPage}
 use Rattle.collector.specs.Place.{Place, free, expire}
 use Rattle.collector.specs.Feed.{Collector, refused, Call, Step, tick, key_of, held_of, Judged, bad, stop, good, judge, hold, received, feed}
 use Rattle.collector.specs.Valid.{Valid}
@@ -38,12 +38,12 @@ pub state-made : (c : Collector) (image : CollectorImage) → Valid c → image 
 state-made c image v e = record { valid = v; head = ap (λ (i : CollectorImage). i.head) e; store = ap (λ (i : CollectorImage). i.store) e }
 
 -- a feed of octets on the head and the store of a collector
-pub fed : (image : CollectorImage) (f : Call) (buffer : List ℕ) (r : FedHead) (store after : List ℕ)
-    → ((c : Collector) → State c image.head image.store → Does (feed c f) buffer r store after) → Made image → Octets f.page
-    → Feeds image f buffer (record { answer = r.answer; collector = record { head = r.head; store = store } }) after
-fed image f buffer r store after does (c, v, e) o = record { did = did; made = ((feed c f).after, valid-feed c f v o, (did c v e).collector) }
+pub fed : (image : CollectorImage) (f : Call) (buffer : List ℕ) (a : Result Fed Refusal) (head : Head) (store after : List ℕ)
+    → ((c : Collector) → State c image.head image.store → Does (feed c f) buffer a head store after) → Made image → Octets f.page
+    → Feeds image f buffer a (record { head = head; store = store }) after
+fed image f buffer a head store after does (c, v, e) o = record { did = did; made = ((feed c f).after, valid-feed c f v o, (did c v e).collector) }
   where
-    did : (c : Collector) → Valid c → image ≡ collector_image c → Did (feed c f) buffer (record { answer = r.answer; collector = record { head = r.head; store = store } }) after
+    did : (c : Collector) → Valid c → image ≡ collector_image c → Did (feed c f) buffer a (record { head = head; store = store }) after
     did c v e =
         let d = does c (state-made c image v e) in
         record {
@@ -53,11 +53,14 @@ fed image f buffer r store after does (c, v, e) o = record { did = did; made = (
         }
 
 -- ---- a refusal, by its equation
-pub refuses : (s : Step) (w : Refusal) (c : Collector) (head : Head) (store buffer : List ℕ) (r : FedHead) → s ≡ record { answer = refused w; after = c }
-    → head ≡ head_image c → store ≡ store_image c.places → r ≡ record { answer = Refused w; head = head } → Does s buffer r store buffer
-refuses s w c head store buffer r e h o f =
-    subst (λ (x : Step). Does x buffer r store buffer) (sym e)
-    (record { answer = ap (λ (x : FedHead). x.answer) f; head = ap (λ (x : FedHead). x.head) f ∙ h; store = o; buffer = refl })
+pub refuses : (s : Step) (w : Refusal) (c : Collector) (head : Head) (store buffer : List ℕ) → s ≡ record { answer = refused w; after = c }
+    → head ≡ head_image c → store ≡ store_image c.places → Does s buffer (Err w) head store buffer
+refuses s w c head store buffer e h o =
+    subst (λ (x : Step). Does x buffer (Err w) head store buffer) (sym e) (record { answer = refl; head = h; store = o; buffer = refl })
+
+-- a buffer that is left as it was
+pub left_as : {s : Step} {before x y : List ℕ} {a : Result Fed Refusal} {head : Head} {store : List ℕ} → y ≡ x → Does s before a head store x → Does s before a head store y
+left_as {s} {before} {a = a} {head} {store} e d = subst (λ (o : List ℕ). Does s before a head store o) (sym e) d
 
 -- ---- the head with another last second and other places
 pub next-head : (c : Collector) (head next : Head) (t u : ℕ) (images : List PlaceImage) (ps : List Place) → head ≡ head_image c → t ≡ u → images ≡ map place_image ps
@@ -89,18 +92,18 @@ store-none (suc n) m e =
     no-pages 1696 (n * 1696) m (padded 1696 []) (store_image (replicate n free)) (padded-none 1696) (store-none n (n * 1696) refl) (omega arith)
 
 -- ---- check 3: what is received, by what the code judges
-bad-of : (j : Judged) (w : Refusal) → judged_image j ≡ Bad w → j ≡ bad w
+bad-of : (j : Judged) (w : Refusal) → judged_image j ≡ Err w → j ≡ bad w
 bad-of (bad r) w e = cc
 bad-of stop w e = cc
 bad-of (good k p) w e = cc
 
-stop-of : (j : Judged) → judged_image j ≡ Stop → j ≡ stop
+stop-of : (j : Judged) → judged_image j ≡ Ok Stop → j ≡ stop
 stop-of (bad r) e = cc
 stop-of stop e = refl
 stop-of (good k p) e = cc
 
-module _ (page : List ℕ) {key : KeyImage} {n : ℕ} where
-  pub good_of : judged_image (judge page) ≡ Good key n → judge page ≡ good (key_of page) (held_of page)
+module _ (page : List ℕ) {key : KeyImage} where
+  pub good_of : judged_image (judge page) ≡ Ok (HoldPage key) → judge page ≡ good (key_of page) (held_of page)
   unfolding judge
   good_of =
       on_bool (is_dummy page) (λ e₀. rw e₀ (λ e. cc))
@@ -110,20 +113,20 @@ module _ (page : List ℕ) {key : KeyImage} {n : ℕ} where
       (λ e₃. on_bool (legal (header_of page).size (header_of page).page) (λ e₄. rw (e₀, e₁, e₂, e₃, e₄) (λ e. refl)) (λ e₄. rw (e₀, e₁, e₂, e₃, e₄) (λ e. cc)))
       (λ e₃. rw (e₀, e₁, e₂, e₃) (λ e. cc)))))
 
-  pub key-of : judged_image (judge page) ≡ Good key n → key ≡ key_image (key_of page)
+  pub key-of : judged_image (judge page) ≡ Ok (HoldPage key) → key ≡ key_image (key_of page)
   key-of e = let g = sym e ∙ ap judged_image (good_of e) in cc
 
 module _ (c : Collector) (t : ℕ) where
-  pub receives-bad : (j : Judged) (w : Refusal) → judged_image j ≡ Bad w → received c t j ≡ record { answer = refused w; after = c }
+  pub receives-bad : (j : Judged) (w : Refusal) → judged_image j ≡ Err w → received c t j ≡ record { answer = refused w; after = c }
   unfolding received
   receives-bad j w e = ap (received c t) (bad-of j w e)
 
-  pub receives-stop : (j : Judged) → judged_image j ≡ Stop
+  pub receives-stop : (j : Judged) → judged_image j ≡ Ok Stop
       → received c t j ≡ record { answer = refused Stopped; after = record { timeout = c.timeout; last = c.last; places = replicate 8 free } }
   unfolding received
   receives-stop j e = ap (received c t) (stop-of j e)
 
-  pub receives-good : (page : List ℕ) {key : KeyImage} {n : ℕ} → judged_image (judge page) ≡ Good key n → received c t (judge page) ≡ hold c t (key_of page) (held_of page)
+  pub receives-good : (page : List ℕ) {key : KeyImage} → judged_image (judge page) ≡ Ok (HoldPage key) → received c t (judge page) ≡ hold c t (key_of page) (held_of page)
   unfolding received
   receives-good page e = ap (received c t) (good_of page e)
 

@@ -1,11 +1,10 @@
 -- The collector as a function, check by check: 01, The collector.
 -- Leans on the places, and of pagecode on the header, the legal numbers and the unique solution.
-use Rattle.std.specs.Prelude.{ℕ, Bool, true, false, not, ◌&&◌, cond, List, [], ◌∷◌, ◌++◌, map, length, drop, replicate, leb, ltb, eqb}
+use Rattle.std.specs.Prelude.{ℕ, Bool, true, false, not, ◌&&◌, cond, List, [], ◌∷◌, ◌++◌, map, length, drop, replicate, leb, ltb, eqb, Ok, Err}
 use Rattle.std.proofs.Math.Option.{Option, none, some}
 use Rattle.refusal.specs.declared.Refusal.{Refusal}
 use Rattle.refusal.specs.declared.Refusal.TheVariants.{Length, Out, Second, Clock, Dummy, Stop, Status, Kind, PageNumber, Done, Repeat, Conflict, Full, Timeout}
-use Rattle.pagecode.specs.declared.Answer.{Answer as StartAnswer}
-use Rattle.pagecode.specs.declared.Answer.TheVariants.{Good, Refused}
+use Rattle.pagecode.specs.Answer.{Answer as StartAnswer}
 use Rattle.pagecode.specs.Page.{legal, header_of, is_dummy}
 use Rattle.pagecode.proofs.Promises.{solution_of}
 use Rattle.collector.specs.Place.{Key, Held, Place, free, waiting, done, has_key, is_free, find, any_free, replace, expire, pages_in, lookup, numbers, contents}
@@ -45,7 +44,7 @@ unfoldable pub startable : ℕ → Bool
 startable timeout = leb 1 timeout && leb timeout 600
 
 unfoldable pub start_answer : ℕ → StartAnswer
-start_answer timeout = cond (startable timeout) Good (Refused Timeout)
+start_answer timeout = cond (startable timeout) (Ok tt) (Err Timeout)
 
 unfoldable pub begun : ℕ → Collector
 begun timeout = fresh (cond (startable timeout) timeout 1)

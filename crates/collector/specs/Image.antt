@@ -1,7 +1,7 @@
 -- How the code holds a collector: 01, The form for each place. A place's state is an enum in a struct beside its page numbers; the contents of its pages
 -- stand in its 1,696 octets of one store. What is not in use is 0, so a collector has one image only.
 -- Leans on the collector, and on the structs of the source.
-use Rattle.std.specs.Prelude.{ℕ, ◌-◌, Bool, true, false, ◌≡◌, List, [], ◌∷◌, ◌++◌, map, length, replicate}
+use Rattle.std.specs.Prelude.{ℕ, ◌-◌, Bool, true, false, ◌≡◌, List, [], ◌∷◌, ◌++◌, map, length, replicate, Result, Ok, Err}
 use Rattle.collector.specs.declared.state.Key.{Key as KeyImage}
 use Rattle.collector.specs.declared.state.PlaceState.{PlaceState}
 use Rattle.collector.specs.declared.state.PlaceState.TheVariants.{Free, Open, Done}
@@ -9,8 +9,8 @@ use Rattle.collector.specs.declared.state.Place.{Place as PlaceImage}
 use Rattle.collector.specs.declared.state.Head.{Head}
 use Rattle.collector.specs.declared.state.Collector.{Collector as CollectorImage}
 use Rattle.collector.specs.declared.state.Fed.{Fed}
-use Rattle.collector.specs.declared.state.Fed.TheVariants.{Kept, Ready, Refused}
-use Rattle.collector.specs.declared.state.FedCollector.{FedCollector}
+use Rattle.collector.specs.declared.state.Fed.TheVariants.{Kept, Ready}
+use Rattle.refusal.specs.declared.Refusal.{Refusal}
 use Rattle.collector.specs.Place.{Key, Place, free, waiting, done, pages_in, numbers, contents}
 use Rattle.collector.specs.Feed.{Collector, Answer, kept, ready, refused, written, Call, Step, feed}
 use Rattle.collector.specs.Valid.{Valid}
@@ -51,18 +51,18 @@ Decides true P = P
 Decides false P = P → ⊥
 
 -- the answer as the code gives it: the octets of READY are in the buffer
-abbrev pub answer_image : Answer → Fed
-answer_image (kept n) = Kept n
-answer_image (ready k octets) = Ready k
-answer_image (refused r) = Refused r
+abbrev pub answer_image : Answer → Result Fed Refusal
+answer_image (kept n) = Ok (Kept n)
+answer_image (ready k octets) = Ok (Ready k)
+answer_image (refused r) = Err r
 
 -- a step, as `feed` takes it: its answer, the collector after it, and the buffer, which held `before` and then holds `after`
-pub record Did (s : Step) (before : List ℕ) (r : FedCollector) (after : List ℕ) : Type 0 where
-  pub answer : r.answer ≡ answer_image s.answer
-  pub collector : r.collector ≡ collector_image s.after
+pub record Did (s : Step) (before : List ℕ) (a : Result Fed Refusal) (image : CollectorImage) (after : List ℕ) : Type 0 where
+  pub answer : a ≡ answer_image s.answer
+  pub collector : image ≡ collector_image s.after
   pub buffer : after ≡ written s.answer before
 
 -- the contract of `feed`: of whatever collector is held, the step is a feed
-pub record Feeds (held : CollectorImage) (call : Call) (before : List ℕ) (r : FedCollector) (after : List ℕ) : Type 0 where
-  pub did : (c : Collector) → Valid c → held ≡ collector_image c → Did (feed c call) before r after
-  pub made : Made r.collector
+pub record Feeds (held : CollectorImage) (call : Call) (before : List ℕ) (a : Result Fed Refusal) (image : CollectorImage) (after : List ℕ) : Type 0 where
+  pub did : (c : Collector) → Valid c → held ≡ collector_image c → Did (feed c call) before a image after
+  pub made : Made image

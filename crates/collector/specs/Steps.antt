@@ -1,14 +1,16 @@
 -- What the steps of the code do, on what the code holds: for private contracts alone. No public contract and no theorem of demand 3 cites it.
 -- Leans on the images.
-use Rattle.std.specs.Prelude.{ℕ, suc, ◌<◌, Bool, true, false, ◌&&◌, cond, ◌≡◌, List, [], ◌∷◌, ◌++◌, map, eqb, length, get_or, set}
+use Rattle.std.specs.Prelude.{ℕ, ◌<◌, Bool, true, false, ◌&&◌, ◌≡◌, List, [], ◌∷◌, ◌++◌, map, eqb, length, get_or, set, Result, Ok, Err}
 use Rattle.collector.specs.declared.state.Key.{Key as KeyImage}
 use Rattle.collector.specs.declared.state.PlaceState.{PlaceState}
 use Rattle.collector.specs.declared.state.PlaceState.TheVariants.{Free, Open, Done}
 use Rattle.collector.specs.declared.state.Place.{Place as PlaceImage}
 use Rattle.collector.specs.declared.state.Head.{Head}
-use Rattle.collector.specs.declared.state.FedHead.{FedHead}
+use Rattle.collector.specs.declared.state.Fed.{Fed}
 use Rattle.collector.specs.declared.header.Judged.{Judged as JudgedImage}
-use Rattle.collector.specs.declared.header.Judged.TheVariants.{Bad, Stop, Good}
+use Rattle.collector.specs.declared.header.Judged.TheVariants.{Stop, Hold as HoldPage}
+use Rattle.collector.specs.declared.keeping.Waiting.{Waiting}
+use Rattle.refusal.specs.declared.Refusal.{Refusal}
 use Rattle.lists.specs.Lists.{Every}
 use Rattle.collector.specs.Lists.{Nodup}
 use Rattle.collector.specs.Place.{Key, Held, Place, free, waiting, over, expire, pages_in, numbers}
@@ -16,17 +18,12 @@ use Rattle.collector.specs.Feed.{Collector, Step, Settled, Judged, bad, stop, go
 use Rattle.collector.specs.Valid.{Valid, KeyOk, PageOk, PlaceOk}
 use Rattle.collector.specs.Image.{padded, key_image, place_image, store_image, head_image, answer_image}
 
--- the place of the first element of which a test holds; the length if there is none
-abbrev pub first_index : {A : Type 0} → (A → Bool) → List A → ℕ
-first_index is [] = 0
-first_index is (x ∷ xs) = cond (is x) 0 (suc (first_index is xs))
-
 abbrev pub state_free : PlaceState → Bool
 state_free Free = true
 state_free (Open k first n) = false
 state_free (Done k first) = false
 
-unfoldable pub same_key_image : KeyImage → KeyImage → Bool
+abbrev pub same_key_image : KeyImage → KeyImage → Bool
 same_key_image a b = eqb a.status b.status && (eqb a.number b.number && eqb a.size b.size)
 
 abbrev pub state_has_key : KeyImage → PlaceState → Bool
@@ -39,10 +36,10 @@ state_over timeout t Free = false
 state_over timeout t (Open k first n) = over timeout t first
 state_over timeout t (Done k first) = over timeout t first
 
-abbrev pub judged_image : Judged → JudgedImage
-judged_image (bad r) = Bad r
-judged_image stop = Stop
-judged_image (good k p) = Good (key_image k) p.number
+abbrev pub judged_image : Judged → Result JudgedImage Refusal
+judged_image (bad r) = Err r
+judged_image stop = Ok Stop
+judged_image (good k p) = Ok (HoldPage (key_image k))
 
 -- ---- places and a store that hold ps
 pub record Hold (ps : List Place) (images : List PlaceImage) (octets : List ℕ) : Type 0 where
@@ -68,9 +65,9 @@ abbrev pub MadeOf : Head → List ℕ → Type 0
 MadeOf head store = (c : Collector) × State c head store
 
 -- a step, as the code takes it on head and store
-pub record Does (s : Step) (before : List ℕ) (r : FedHead) (octets after : List ℕ) : Type 0 where
-  pub answer : r.answer ≡ answer_image s.answer
-  pub head : r.head ≡ head_image s.after
+pub record Does (s : Step) (before : List ℕ) (a : Result Fed Refusal) (image : Head) (octets after : List ℕ) : Type 0 where
+  pub answer : a ≡ answer_image s.answer
+  pub head : image ≡ head_image s.after
   pub store : octets ≡ store_image s.after.places
   pub buffer : after ≡ written s.answer before
 
@@ -84,27 +81,24 @@ pub record Together (k : Key) (pages : List Held) : Type 0 where
   pub differ : Nodup (numbers pages)
   pub each : Every (PageOk k) pages
 
--- place i of c holds these pages of key k, and one more page joins them
-pub record Keeping (c : Collector) (k : Key) (pages : List Held) (image : Head) (octets : List ℕ) (i : ℕ) (j : KeyImage) (n : ℕ) (ns page : List ℕ) (length-out : ℕ) : Type 0 where
+-- place i of c holds these pages of key k, which are those that the code holds, and one more page joins them
+pub record Keeping (c : Collector) (k : Key) (pages : List Held) (image : Head) (octets : List ℕ) (i : ℕ) (w : Waiting) (page : List ℕ) : Type 0 where
   pub state : State c image octets
   pub at : i < 8
   pub held : pages_in (get_or c.places i free) ≡ pages
-  pub key : j ≡ key_image k
-  pub count : n ≡ length pages
+  pub key : w.key ≡ key_image k
+  pub count : w.count ≡ length pages
   pub few : length pages < k.size
-  pub numbers : ns ≡ padded 32 (numbers pages)
+  pub numbers : w.numbers ≡ padded 32 (numbers pages)
   pub together : Together k (pages ++ (held_of page ∷ []))
-  pub long : length page ≡ 56
-  pub room : length-out ≡ 1696
 
 -- all pages of the key have come: the store and the numbers hold them at place i, the head does not yet
-pub record Finishing (c : Collector) (k : Key) (pages : List Held) (image : Head) (octets : List ℕ) (i : ℕ) (j : KeyImage) (first : ℕ) (ns : List ℕ) (length-out : ℕ) : Type 0 where
+pub record Finishing (c : Collector) (k : Key) (pages : List Held) (image : Head) (octets : List ℕ) (i : ℕ) (w : Waiting) : Type 0 where
   pub valid : Valid c
   pub head : image ≡ head_image c
-  pub store : octets ≡ store_image (set c.places i (waiting k first pages))
+  pub store : octets ≡ store_image (set c.places i (waiting k w.first pages))
   pub at : i < 8
-  pub key : j ≡ key_image k
+  pub key : w.key ≡ key_image k
   pub all : length pages ≡ k.size
-  pub numbers : ns ≡ padded 32 (numbers pages)
+  pub numbers : w.numbers ≡ padded 32 (numbers pages)
   pub together : Together k pages
-  pub room : length-out ≡ 1696

@@ -11,20 +11,18 @@ use crate::store::clear_place;
 fn is_over(first: u64, timeout: u64, second: u64) -> bool
     ensures { result ≡ over timeout second first }
 {
-    if second < timeout {
-        return false;
-    }
-    first <= second - timeout
+    timeout <= second && first <= second - timeout
 }
 
-fn is_place_over(place: Place, timeout: u64, second: u64) -> bool
-    ensures { result ≡ state_over timeout second place.state }
+// Whether a place's first second is a time-out or more ago.
+fn is_place_over(place: &Place, timeout: u64, second: u64) -> bool
+    ensures { result ≡ state_over timeout second place.now.state }
 {
-    let state = place.state;
-    match state {
+    match place.state {
         PlaceState::Free => false,
-        PlaceState::Open(_, first, _) => is_over(first, timeout, second),
-        PlaceState::Done(_, first) => is_over(first, timeout, second),
+        PlaceState::Open(_, first, _) | PlaceState::Done(_, first) => {
+            is_over(first, timeout, second)
+        }
     }
 }
 
@@ -39,44 +37,24 @@ pub fn free_place() -> Place
 }
 
 // Frees place i if its time-out is over.
-fn expire_place(
-    places: [Place; PLACES],
-    store: &mut [u8],
-    i: usize,
-    timeout: u64,
-    second: u64,
-) -> [Place; PLACES]
-    requires { (i < 8) × Holding places store.old }
-    ensures { (ps : List PlaceModel) → Hold ps places store.old → Hold (expire_at timeout second i ps) result store.new }
+fn expire_place(places: &mut [Place; PLACES], store: &mut [u8], i: usize, timeout: u64, second: u64)
+    requires { (i < 8) × Holding places.old store.old }
+    ensures { (ps : List PlaceModel) → Hold ps places.old store.old → Hold (expire_at timeout second i ps) places.new store.new }
 {
-    let place = places[i];
-    if !is_place_over(place, timeout, second) {
-        return places;
+    if is_place_over(&places[i], timeout, second) {
+        clear_place(store, i);
+        places[i] = free_place();
     }
-    clear_place(store, i);
-    let mut next = places;
-    next[i] = free_place();
-    next
 }
 
-// Frees every place whose time-out is over.
-pub fn tick_places(
-    places: [Place; PLACES],
-    store: &mut [u8],
-    timeout: u64,
-    second: u64,
-) -> [Place; PLACES]
-    requires { Holding places store.old }
-    ensures { (ps : List PlaceModel) → Hold ps places store.old → Hold (map (expire timeout second) ps) result store.new }
+// Frees every place whose time-out is over. By index: of a store that `chunks_exact_mut` lends the library's contract tells no octet.
+pub fn tick_places(places: &mut [Place; PLACES], store: &mut [u8], timeout: u64, second: u64)
+    requires { Holding places.old store.old }
+    ensures { (ps : List PlaceModel) → Hold ps places.old store.old → Hold (map (expire timeout second) ps) places.new store.new }
 {
-    let mut next = places;
-    let mut i: usize = 0;
-    while i < PLACES {
-        let freed = expire_place(next, store, i, timeout, second);
-        next = freed;
-        i += 1;
+    for i in 0..PLACES {
+        expire_place(places, store, i, timeout, second);
     }
-    next
 }
 
 // Eight free places.

@@ -1,5 +1,5 @@
 // Check 3: what a page's header says (document 01, The page, and The collector).
-ghost use Rattle.std.specs.Prelude.{◌≡◌, length};
+ghost use Rattle.std.specs.Prelude.{◌≡◌};
 ghost use Rattle.pagecode.specs.Page.{header_of, is_dummy};
 ghost use Rattle.collector.specs.Feed.{key_of, judge};
 ghost use Rattle.collector.specs.Image.{key_image};
@@ -8,31 +8,22 @@ ghost use Rattle.collector.specs.Steps.{judged_image};
 use crate::state::Key;
 use refusal::Refusal;
 
-// A refusal; a status 3 page; or a page to hold, by its key and its number.
-#[derive(Clone, Copy)]
+// A page that is not refused by its header: one of status 3, or one to hold, by its key. It has names of its own, as an `Option` would have none for STOP, which empties all places.
+#[derive(Clone, Copy, Debug, PartialEq, Eq)]
 pub enum Judged {
-    Bad(Refusal),
     Stop,
-    Good(Key, u8),
+    Hold(Key),
 }
 
 // Whether the header is AF3BC3.
-fn is_dummy(page: &[u8]) -> bool
-    requires { length page.now ≡ 56 }
+fn is_dummy(page: &[u8; 56]) -> bool
     ensures { result ≡ is_dummy page.now }
 {
-    if page[0] != 0xAF {
-        return false;
-    }
-    if page[1] != 0x3B {
-        return false;
-    }
-    page[2] == 0xC3
+    page.starts_with(&[0xAF, 0x3B, 0xC3])
 }
 
 // The status, number and size of the header.
-fn key_of(page: &[u8]) -> Key
-    requires { length page.now ≡ 56 }
+fn key_of(page: &[u8; 56]) -> Key
     ensures { result ≡ key_image (key_of page.now) }
 {
     Key {
@@ -43,42 +34,31 @@ fn key_of(page: &[u8]) -> Key
 }
 
 // The type of the header.
-fn kind_of(page: &[u8]) -> u8
-    requires { length page.now ≡ 56 }
+fn kind_of(page: &[u8; 56]) -> u8
     ensures { result ≡ (header_of page.now).kind }
 {
     page[0] / 4 % 4
 }
 
-fn wide(x: u8) -> usize
-    ensures { result ≡ x }
-{
-    x as usize
-}
-
 // The checks of the header, in their order.
-pub fn judge_page(page: &[u8]) -> Judged
-    requires { length page.now ≡ 56 }
+pub fn judge_page(page: &[u8; 56]) -> Result<Judged, Refusal>
     ensures { result ≡ judged_image (judge page.now) }
 {
     if is_dummy(page) {
-        return Judged::Bad(Refusal::Dummy);
+        return Err(Refusal::Dummy);
     }
     let key = key_of(page);
     if key.status == 3 {
-        return Judged::Stop;
+        return Ok(Judged::Stop);
     }
     if key.status == 2 {
-        return Judged::Bad(Refusal::Status);
+        return Err(Refusal::Status);
     }
     if kind_of(page) != 1 {
-        return Judged::Bad(Refusal::Kind);
+        return Err(Refusal::Kind);
     }
-    let number = page[2];
-    let size = wide(key.size);
-    let wide_number = wide(number) as u64;
-    if !pagecode::is_legal(size, wide_number) {
-        return Judged::Bad(Refusal::PageNumber);
+    if !pagecode::is_legal(usize::from(key.size), u64::from(page[2])) {
+        return Err(Refusal::PageNumber);
     }
-    Judged::Good(key, number)
+    Ok(Judged::Hold(key))
 }

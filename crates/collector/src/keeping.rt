@@ -4,71 +4,69 @@ ghost use Rattle.collector.specs.Place.{Key as KeyModel, Held, done};
 ghost use Rattle.collector.specs.Feed.{Collector, ready, grow, held_of, message_of};
 ghost use Rattle.collector.specs.Steps.{Does, Keeping, Finishing, settled_at};
 
-use crate::state::{Fed, FedHead, Head, Key, PLACE_OCTETS, Place, PlaceState};
-use crate::store::{clear_place, place_octets, put_content, wide_numbers};
+use crate::state::{Fed, Head, Key, PLACE_OCTETS, Place, PlaceState};
+use crate::store::{clear_place, put_content, wide_numbers};
+use refusal::Refusal;
+
+// What a place has while its message is not solved: its key, the second of its first page, how many pages, and their numbers.
+// A row of 32 and a count, and no list: so a place has them (`Place`, which the image's 41 octets hold, `place_octets`), and the libraries use no heap.
+#[derive(Clone, Copy)]
+pub struct Waiting {
+    pub key: Key,
+    pub first: u64,
+    pub count: usize,
+    pub numbers: [u8; 32],
+}
 
 // The last page has come: the message is solved, and the place is done.
 fn finish_place(
-    head: Head,
+    head: &mut Head,
     store: &mut [u8],
     i: usize,
-    key: Key,
-    first: u64,
-    numbers: [u8; 32],
-    out: &mut [u8],
-) -> FedHead
-    requires { (c : Collector) × (k : KeyModel) × (pages : List Held) × Finishing c k pages head store.old i key first numbers (length out.old) }
-    ensures { (c : Collector) (k : KeyModel) (pages : List Held) → Finishing c k pages head store.old i key first numbers (length out.old)
-        → Does (settled_at c i (record { answer = ready k.size (message_of pages); place = done k first })) out.old result store.new out.new }
+    all: Waiting,
+    out: &mut [u8; PLACE_OCTETS],
+) -> Result<Fed, Refusal>
+    requires { (c : Collector) × (k : KeyModel) × (pages : List Held) × Finishing c k pages head.old store.old i all }
+    ensures { (c : Collector) (k : KeyModel) (pages : List Held) → Finishing c k pages head.old store.old i all
+        → Does (settled_at c i (record { answer = ready k.size (message_of pages); place = done k all.first })) out.old result head.new store.new out.new }
 {
-    let octets = place_octets(store, i);
-    let wide = wide_numbers(numbers);
-    let size = key.size as usize;
-    pagecode::solve(&octets[..size * 53], &wide[..size], out);
+    let at = i * PLACE_OCTETS;
+    let size = usize::from(all.key.size);
+    let wide = wide_numbers(all.numbers);
+    let contents = &store[at..at + size * 53];
+    let numbers = &wide[..size];
+    pagecode::solve(contents, numbers, out)?;
     clear_place(store, i);
-    let place = Place {
-        state: PlaceState::Done(key, first),
+    head.places[i] = Place {
+        state: PlaceState::Done(all.key, all.first),
         numbers: [0u8; 32],
     };
-    let mut next = head;
-    next.places[i] = place;
-    FedHead {
-        answer: Fed::Ready(key.size as u64),
-        head: next,
-    }
+    Ok(Fed::Ready(size as u64))
 }
 
-// The page joins the `count` pages of place i: KEPT, or READY.
+// The page joins those of place i: KEPT, or READY.
 pub fn keep_page(
-    head: Head,
+    head: &mut Head,
     store: &mut [u8],
     i: usize,
-    key: Key,
-    first: u64,
-    count: usize,
-    numbers: [u8; 32],
-    page: &[u8],
-    out: &mut [u8],
-) -> FedHead
-    requires { (c : Collector) × (k : KeyModel) × (pages : List Held) × Keeping c k pages head store.old i key count numbers page.now (length out.old) }
-    ensures { (c : Collector) (k : KeyModel) (pages : List Held) → Keeping c k pages head store.old i key count numbers page.now (length out.old)
-        → Does (settled_at c i (grow k first (pages ++ (held_of page.now ∷ [])))) out.old result store.new out.new }
+    held: Waiting,
+    page: &[u8; 56],
+    out: &mut [u8; PLACE_OCTETS],
+) -> Result<Fed, Refusal>
+    requires { (c : Collector) × (k : KeyModel) × (pages : List Held) × Keeping c k pages head.old store.old i held page.now }
+    ensures { (c : Collector) (k : KeyModel) (pages : List Held) → Keeping c k pages head.old store.old i held page.now
+        → Does (settled_at c i (grow k held.first (pages ++ (held_of page.now ∷ [])))) out.old result head.new store.new out.new }
 {
-    put_content(store, i * PLACE_OCTETS + count * 53, page);
-    let mut held = numbers;
-    held[count] = page[2];
-    let more = count + 1;
-    if more == key.size as usize {
-        return finish_place(head, store, i, key, first, held, out);
+    put_content(store, i * PLACE_OCTETS + held.count * 53, page);
+    let mut more = held;
+    more.numbers[held.count] = page[2];
+    more.count = held.count + 1;
+    if more.count == usize::from(held.key.size) {
+        return finish_place(head, store, i, more, out);
     }
-    let place = Place {
-        state: PlaceState::Open(key, first, more),
-        numbers: held,
+    head.places[i] = Place {
+        state: PlaceState::Open(held.key, held.first, more.count),
+        numbers: more.numbers,
     };
-    let mut next = head;
-    next.places[i] = place;
-    FedHead {
-        answer: Fed::Kept(more as u64),
-        head: next,
-    }
+    Ok(Fed::Kept(more.count as u64))
 }

@@ -15,5 +15,5 @@ pub use checking::is_made;
 pub use clock::free_places;
 pub use feeding::{feed, feed_in_place};
 pub use starting::{TIMEOUT, is_startable, start};
-pub use state::{Collector, Fed, FedCollector, FedHead, Head, Key, Place, PlaceState, Started};
+pub use state::{Collector, Fed, Head, Key, Place, PlaceState, Started};
 pub use store::clear_store;

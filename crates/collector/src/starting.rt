@@ -5,35 +5,29 @@ ghost use Rattle.collector.specs.Image.{collector_image, Made};
 
 use crate::clock::free_places;
 use crate::state::{Collector, Head, STORE_OCTETS, Started};
-use pagecode::Answer;
 use refusal::Refusal;
 
 // The product's time-out, in seconds (ICD 6.4.1).
 pub const TIMEOUT: u64 = 150;
 
+// Whether a collector may have the time-out.
 pub fn is_startable(timeout: u64) -> bool
     ensures { result ≡ startable timeout }
 {
-    if timeout < 1 {
-        return false;
-    }
-    timeout <= 600
+    1 <= timeout && timeout <= 600
 }
 
 // A fresh collector.
 fn fresh_collector(timeout: u64) -> Collector
     ensures { result ≡ collector_image (fresh timeout) }
 {
-    let places = free_places();
-    let head = Head {
-        timeout: timeout,
-        last: 0,
-        places: places,
-    };
-    let store = [0u8; STORE_OCTETS];
     Collector {
-        head: head,
-        store: store,
+        head: Head {
+            timeout,
+            last: 0,
+            places: free_places(),
+        },
+        store: [0u8; STORE_OCTETS],
     }
 }
 
@@ -44,13 +38,13 @@ pub fn start(timeout: u64) -> Started
     if is_startable(timeout) {
         let collector = fresh_collector(timeout);
         return Started {
-            answer: Answer::Good,
-            collector: collector,
+            answer: Ok(()),
+            collector,
         };
     }
     let collector = fresh_collector(1);
     Started {
-        answer: Answer::Refused(Refusal::Timeout),
-        collector: collector,
+        answer: Err(Refusal::Timeout),
+        collector,
     }
 }

@@ -1,5 +1,4 @@
 // What a collector is made of, and what a feed answers.
-use pagecode::Answer;
 use refusal::Refusal;
 
 // The places, and the octets of each in the store: 32 pages of 53.
@@ -12,7 +11,8 @@ pub const STORE_OCTETS: usize = 13568;
 // The last second that a feed takes.
 pub const LAST_SECOND: u64 = 2477260799;
 
-#[derive(Clone, Copy)]
+// What tells one message from another.
+#[derive(Clone, Copy, Debug, PartialEq, Eq)]
 pub struct Key {
     pub status: u8,
     pub number: u8,
@@ -20,7 +20,7 @@ pub struct Key {
 }
 
 // Open: the key, the second of the first page, how many pages are held. Done: the key and that second.
-#[derive(Clone, Copy)]
+#[derive(Clone, Copy, Debug, PartialEq, Eq)]
 pub enum PlaceState {
     Free,
     Open(Key, u64, usize),
@@ -42,34 +42,23 @@ pub struct Head {
     pub places: [Place; PLACES],
 }
 
+// A collector whole.
 #[derive(Drop)]
 pub struct Collector {
     pub head: Head,
     pub store: [u8; STORE_OCTETS],
 }
 
-// What a feed answers: the count of different numbers now held, the size of the message that is solved, or the refusal.
-#[derive(Clone, Copy)]
+// What a feed that takes its page answers: the count of different numbers now held, or the size of the message that is solved.
+#[derive(Clone, Copy, Debug, PartialEq, Eq)]
 pub enum Fed {
     Kept(u64),
     Ready(u64),
-    Refused(Refusal),
 }
 
-#[derive(Clone, Copy)]
-pub struct FedHead {
-    pub answer: Fed,
-    pub head: Head,
-}
-
-#[derive(Drop)]
-pub struct FedCollector {
-    pub answer: Fed,
-    pub collector: Collector,
-}
-
+// What `start` answers, and a collector. A struct and no `Result`: beside TIMEOUT too there is a collector, as `start` promises.
 #[derive(Drop)]
 pub struct Started {
-    pub answer: Answer,
+    pub answer: Result<(), Refusal>,
     pub collector: Collector,
 }

@@ -1,60 +1,42 @@
 // Amounts in metres and cycles.
-ghost use Rattle.std.specs.Prelude.{◌≤◌, ◌<◌};
+use std::fmt;
 
-use std::io;
+// How the amounts of a field are written: the value that means not available, the unit in units of the last decimal, how many decimals, and the unit's name.
+#[derive(Clone, Copy)]
+pub struct Scale {
+    pub none: i16,
+    pub unit: u32,
+    pub decimals: usize,
+    pub name: &'static str,
+}
 
-// The decimals of a number below 10,000, with their noughts in front: four of them, or two.
-fn print_decimals(rt: &impl Print, n: u64, decimals: usize) -> io::Result<()> {
-    if decimals == 4 {
-        stdio::print_decimal(rt, n / 1000 % 10)?;
-        stdio::print_decimal(rt, n / 100 % 10)?;
+// What two octets of a record mean, in two's complement.
+#[derive(Clone, Copy)]
+pub struct Amount {
+    pub value: i16,
+    pub scale: Scale,
+}
+
+impl fmt::Display for Amount {
+    // Writes the sign, the decimals and the unit's name; or that the amount is not available.
+    fn fmt<W: fmt::Write>(&self, f: &mut fmt::Formatter<W>) -> fmt::Result {
+        let Scale {
+            none,
+            unit,
+            decimals,
+            name,
+        } = self.scale;
+        if self.value == none {
+            return f.write_str("not available");
+        }
+        let sign = if self.value < 0 { '-' } else { '+' };
+        let one: u64 = if decimals == 4 { 10000 } else { 100 };
+        let amount = u64::from(self.value.unsigned_abs()) * u64::from(unit);
+        write!(
+            f,
+            "{sign}{}.{:0decimals$}{name}",
+            amount / one,
+            amount % one
+        )
     }
-    stdio::print_decimal(rt, n / 10 % 10)?;
-    stdio::print_decimal(rt, n % 10)
-}
-
-// How much v is without its sign, of two octets in two's complement.
-fn size_of(v: u64) -> u64
-    requires { v < 65536 }
-    ensures { result < 65536 }
-{
-    if v < 32768 { v } else { 65536 - v }
-}
-
-fn one_of(decimals: usize) -> u64
-    ensures { 0 < result }
-{
-    if decimals == 4 { 10000 } else { 100 }
-}
-
-fn print_sign(rt: &impl Print, v: u64) -> io::Result<()> {
-    if v < 32768 {
-        stdio::write_all(rt, b"+")
-    } else {
-        stdio::write_all(rt, b"-")
-    }
-}
-
-// What v, two octets of a record, means: in two's complement, times `unit` of the last decimal. `none` is the value that means not available.
-pub fn print_amount(
-    rt: &impl Print,
-    v: u64,
-    none: u64,
-    unit: u64,
-    decimals: usize,
-    name: &[u8],
-) -> io::Result<()>
-    requires { (v < 65536) × (unit ≤ 100) }
-{
-    if v == none {
-        stdio::write_all(rt, b"not available")?;
-        return Ok(());
-    }
-    let one = one_of(decimals);
-    let amount = size_of(v) * unit;
-    print_sign(rt, v)?;
-    stdio::print_decimal(rt, amount / one)?;
-    stdio::write_all(rt, b".")?;
-    print_decimals(rt, amount % one, decimals)?;
-    stdio::write_all(rt, name)
 }

@@ -9,29 +9,26 @@ use lib.ListN.{length, drop}
 use borrow.Author.Tests.{eq-eqb, ne_eqb}
 use Rattle.refusal.specs.declared.Refusal.{Refusal}
 use Rattle.refusal.specs.declared.Refusal.TheVariants.{Length, Out, Timeout}
-use Rattle.refusal.proofs.OneCase.{no-nought}
-use Rattle.pagecode.specs.declared.Answer.{Answer}
-use Rattle.pagecode.specs.declared.Answer.TheVariants as start-answer
-use Rattle.pagecode.specs.Answer.{answer_number}
+use Rattle.std.specs.Prelude.{Ok, Err}
+use Rattle.pagecode.specs.Answer.{Answer}
 use Rattle.lists.specs.Lists.{laid}
 use Rattle.lists.proofs.Tests.{on_bool}
 use Rattle.collector.specs.declared.state.Collector.{Collector as CollectorImage}
 use Rattle.collector.specs.Feed.{fresh, startable, start_answer, begun}
 use Rattle.collector.specs.Image.{collector_image}
-use Rattle.drive.specs.declared.replaying.Replayed.TheVariants.{Octets, Refused}
 use Rattle.drive.specs.Drive.{log_of, are_entries, replay_answer, Replays}
 use Rattle.drive.specs.Steps.{Appends, State}
 use Rattle.drive.proofs.Room.{valid-start}
 
 -- ---- a start
 module _ (timeout : ℕ) where
-  pub started : {a : Answer} → a ≡ start_answer timeout → a ≡ start-answer.Good → startable timeout ≡ true
+  pub started : {a : Answer} → a ≡ start_answer timeout → a ≡ Ok tt → startable timeout ≡ true
   unfolding start_answer
-  started e g = on_bool (startable timeout) (λ s. s) (λ s. absurd (no-nought Timeout (ap answer_number (sym (rw s at e) ∙ g))))
+  started e g = on_bool (startable timeout) (λ s. s) (λ s. let f = rw s at e in let never : ⊥ = cc in absurd never)
 
-  pub not-started : {a : Answer} {r : Refusal} → a ≡ start_answer timeout → a ≡ start-answer.Refused r → startable timeout ≡ false
+  pub not-started : {a : Answer} {r : Refusal} → a ≡ start_answer timeout → a ≡ Err r → (startable timeout ≡ false) × (r ≡ Timeout)
   unfolding start_answer
-  not-started {r = r} e g = on_bool (startable timeout) (λ s. absurd (no-nought r (ap answer_number (sym g ∙ rw s at e)))) (λ s. s)
+  not-started e g = on_bool (startable timeout) (λ s. let f = rw s at e in let never : ⊥ = cc in absurd never) (λ s. (s, let f = rw s at e in cc))
 
   begun_fresh : startable timeout ≡ true → begun timeout ≡ fresh timeout
   unfolding begun
@@ -49,26 +46,26 @@ module _ (timeout : ℕ) where
 
 -- ---- the answer and the buffer
 module _ (timeout : ℕ) (octets before : List ℕ) where
-  pub no-entries : are_entries (length octets) ≡ false → Replays timeout octets before (Refused Length) before
+  pub no-entries : are_entries (length octets) ≡ false → Replays timeout octets before (Err Length) before
   unfolding replay_answer
   no-entries w = record { answered = rw w; buffer = refl }
 
   module _ (w : are_entries (length octets) ≡ true) where
-    pub no_room : (length before ≡ 55 * (length octets / 64) → ⊥) → Replays timeout octets before (Refused Out) before
+    pub no_room : (length before ≡ 55 * (length octets / 64) → ⊥) → Replays timeout octets before (Err Out) before
     unfolding replay_answer
     no_room l = record { answered = rw (w, ne_eqb (length before) (55 * (length octets / 64)) l); buffer = refl }
 
     module _ (l : length before ≡ 55 * (length octets / 64)) where
-      pub no_start : startable timeout ≡ false → Replays timeout octets before (Refused Timeout) before
+      pub no_start : startable timeout ≡ false → Replays timeout octets before (Err Timeout) before
       unfolding replay_answer
       no_start s = record { answered = rw (w, eq-eqb (length before) (55 * (length octets / 64)) l, s); buffer = refl }
 
-      pub goes : {after : List ℕ} {end t : ℕ} → startable timeout ≡ true → t ≡ timeout → Appends before 0 (log_of t octets) after end → Replays timeout octets before (Octets end) after
+      pub goes : {after : List ℕ} {end t : ℕ} → startable timeout ≡ true → t ≡ timeout → Appends before 0 (log_of t octets) after end → Replays timeout octets before (Ok end) after
       unfolding replay_answer laid
       goes {after} {end} s e a =
           let b = subst (λ (x : ℕ). Appends before 0 (log_of x octets) after end) e a in
           let n = b.ends ∙ zero-add (length (log_of timeout octets)) in
           record {
-            answered = rw (w, eq-eqb (length before) (55 * (length octets / 64)) l, s) (ap Octets n);
+            answered = rw (w, eq-eqb (length before) (55 * (length octets / 64)) l, s) (ap (λ (k : ℕ). Ok k) n);
             buffer = b.log ∙ ap (λ (k : ℕ). log_of timeout octets ++ drop k before) (sym b.ends);
           }

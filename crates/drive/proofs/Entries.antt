@@ -2,15 +2,14 @@
 -- The code holds that collector, and its log is the log of the entries so far.
 use mathlib.Core.List.{List, [], ◌∷◌, ◌++◌, append-nil, append_assoc}
 use mathlib.Core.Path.{◌≡◌, refl, sym, ap, ◌∙◌, subst}
-use Prim.Native.Nat.{ℕ, zero, suc, ◌+◌, ◌-◌, ◌*◌, ◌/◌, ◌≤◌, ◌<◌}
+use Prim.Native.Nat.{ℕ, zero, suc, ◌+◌, ◌*◌, ◌/◌, ◌≤◌, ◌<◌}
 use native.Mathlib.Numerals.{add-one}
 use native.Mathlib.Omega.{arith}
 use lib.ListN.{length, take, drop, length-append, length-drop}
-use lib.Seq.{length-take-le, drop-drop}
+use lib.Seq.{take_at, drop_at, drop-drop}
 use Rattle.lists.proofs.Laid.{laid_none}
 use Rattle.collector.specs.declared.state.Head.{Head}
 use Rattle.collector.specs.Feed.{Collector, Call, fresh, feed, run, answers}
-use Rattle.drive.specs.declared.logging.Turn.{Turn}
 use Rattle.drive.specs.Drive.{entry_of, entries_of, logged, logs, log_of}
 use Rattle.drive.specs.Steps.{Appends, State, Roomy, Does}
 use Rattle.drive.proofs.Appending.{appends-both}
@@ -61,15 +60,22 @@ module _ (timeout i : ℕ) (octets : List ℕ) where
   length-next = ap length log-next ∙ length-append (log_first timeout i octets) (logged (feed (after timeout i octets) (entry_of (entry_at i octets))).answer)
 
 -- ---- the loop
--- entry i as the code takes it
-pub entry-part : (i : ℕ) (octets : List ℕ) → take (i * 64 + 64 - i * 64) (drop (i * 64) octets) ≡ entry_at i octets
-entry-part i octets = ap (λ (n : ℕ). take n (drop (i * 64) octets)) width
-  where
-    width : i * 64 + 64 - i * 64 ≡ 64
-    width = omega arith
+-- the next 64 octets of those that are left are entry i
+pub record Next (octets : List ℕ) (i : ℕ) (entry rest : List ℕ) : Type 0 where
+  pub part : entry ≡ entry_at i octets
+  pub left : rest ≡ drop ((i + 1) * 64) octets
+  pub more : i < length octets / 64
 
-pub entry-long : (i : ℕ) (octets : List ℕ) → i < length octets / 64 → length (take (i * 64 + 64 - i * 64) (drop (i * 64) octets)) ≡ 64
-entry-long i octets h = ap length (entry-part i octets) ∙ length-take-le 64 (drop (i * 64) octets) (omega (arith, h, length-drop (i * 64) octets))
+pub next-entry : {octets was entry rest : List ℕ} {i : ℕ} → i * 64 ≤ length octets → was ≡ drop (i * 64) octets → was ≡ entry ++ rest → length entry ≡ 64 → Next octets i entry rest
+next-entry {octets} {was} {entry} {rest} {i} h e f l =
+    let both : entry ++ rest ≡ drop (i * 64) octets = sym f ∙ e in
+    let far : i * 64 + 64 ≡ (i + 1) * 64 = omega arith in
+    let long : length entry + length rest + i * 64 ≡ length octets = omega (arith, length-append entry rest, ap length both, length-drop (i * 64) octets) in
+    record {
+      part = sym (take_at entry rest 64 l) ∙ ap (take 64) both;
+      left = sym (drop_at entry rest 64 l) ∙ ap (drop 64) both ∙ drop-drop 64 (i * 64) octets ∙ ap (λ (n : ℕ). drop n octets) far;
+      more = omega arith;
+    }
 
 -- after i entries
 pub record Going (timeout i : ℕ) (octets : List ℕ) (head : Head) (store before log : List ℕ) (at : ℕ) : Type 0 where
@@ -90,15 +96,15 @@ module _ {timeout i at : ℕ} {octets store before log entry : List ℕ} {head :
             (omega (arith, l, g.appends.ends, length-next timeout i octets));
       }
 
-  pub going_next : {store' log' : List ℕ} {r : Turn} → length (log_first timeout (suc i) octets) ≤ length before
-      → Does (after timeout i octets) entry log at r store' log' → Going timeout (i + 1) octets r.head store' before log' r.end
-  going_next {store'} {log'} {r} room l =
-      let w = subst (λ (x : List ℕ). Does (after timeout i octets) x log at r store' log') e l in
-      subst (λ (n : ℕ). Going timeout n octets r.head store' before log' r.end) (sym (add-one i))
+  pub going_next : {store' log' : List ℕ} {head' : Head} {end : ℕ} → length (log_first timeout (suc i) octets) ≤ length before
+      → Does (after timeout i octets) entry log at head' end store' log' → Going timeout (i + 1) octets head' store' before log' end
+  going_next {store'} {log'} {head'} {end} room l =
+      let w = subst (λ (x : List ℕ). Does (after timeout i octets) x log at head' end store' log') e l in
+      subst (λ (n : ℕ). Going timeout n octets head' store' before log' end) (sym (add-one i))
       (record {
-        state = subst (λ (c : Collector). State c r.head store') (sym (after_next timeout i octets)) w.state;
+        state = subst (λ (c : Collector). State c head' store') (sym (after_next timeout i octets)) w.state;
         appends =
-            subst (λ (x : List ℕ). Appends before 0 x log' r.end) (sym (log-next timeout i octets))
+            subst (λ (x : List ℕ). Appends before 0 x log' end) (sym (log-next timeout i octets))
             (appends-both (omega (arith, room, length-next timeout i octets)) g.appends w.appends);
       })
 

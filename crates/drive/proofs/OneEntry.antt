@@ -11,7 +11,10 @@ use Rattle.bits.specs.Bits.{bits_of, value, number_at}
 use Rattle.bits.proofs.Octets.{length-bits_of, bits_of-take}
 use Rattle.bits.proofs.Runs.{number_fits}
 use Rattle.collector.specs.declared.state.Head.{Head}
-use Rattle.collector.specs.declared.state.FedCollector.{FedCollector}
+use Rattle.collector.specs.declared.state.Fed.{Fed}
+use Rattle.collector.specs.declared.state.Collector.{Collector as CollectorImage}
+use Rattle.std.specs.Prelude.{Result}
+use Rattle.refusal.specs.declared.Refusal.{Refusal}
 use Rattle.collector.specs.Feed.{Collector, Call, feed}
 use Rattle.collector.specs.Valid.{Valid}
 use Rattle.collector.specs.Image.{Did, Feeds}
@@ -30,30 +33,30 @@ module _ (c : Collector) (entry : List ℕ) where
   page-is : take (length entry - 8) (drop 8 entry) ≡ drop 8 entry
   page-is = take_all (length entry - 8) (drop 8 entry) (omega (arith, length-drop 8 entry))
 
-  pub entry-did : {head : Head} {store before after : List ℕ} {n : ℕ} {r : FedCollector} → length entry ≡ 64
+  pub entry-did : {head : Head} {store before after : List ℕ} {n : ℕ} {a : Result Fed Refusal} {image : CollectorImage} → length entry ≡ 64
       → n ≡ number_at (bits_of entry) 0 64 → length before ≡ 1696 → State c head store
-      → Feeds (record { head = head; store = store }) (record { second = n; page = take (length entry - 8) (drop 8 entry); room = length before }) before r after
-      → Did (feed c (entry_of entry)) before r after
-  entry-did {before = before} {after = after} {r = r} l e g s h =
-      subst (λ (x : Call). Did (feed c x) before r after) (λ i. record { second = (e ∙ second_is l) i; page = page-is i; room = g i }) (h.did c s.valid s.image)
+      → Feeds (record { head = head; store = store }) (record { second = n; page = take (length entry - 8) (drop 8 entry); room = length before }) before a image after
+      → Did (feed c (entry_of entry)) before a image after
+  entry-did {before = before} {after = after} {a = a} {image = image} l e g s h =
+      subst (λ (x : Call). Did (feed c x) before a image after) (λ i. record { second = (e ∙ second_is l) i; page = page-is i; room = g i }) (h.did c s.valid s.image)
 
-  module _ {before after : List ℕ} {r : FedCollector} (v : Valid c) (o : Octets entry) (d : Did (feed c (entry_of entry)) before r after) where
+  module _ {before after : List ℕ} {a : Result Fed Refusal} {image : CollectorImage} (v : Valid c) (o : Octets entry) (d : Did (feed c (entry_of entry)) before a image after) where
     counted : Counted (feed c (entry_of entry)).answer (held_in c.places) (held_in (feed c (entry_of entry)).after.places)
     counted = feed-counted c (entry_of entry) v (drop-octets 8 entry o)
 
-    same_log : fed_log r.answer after ≡ logged (feed c (entry_of entry)).answer
+    same_log : fed_log a after ≡ logged (feed c (entry_of entry)).answer
     same_log = ap₂ fed_log d.answer d.buffer ∙ fed-logged (feed c (entry_of entry)).answer before _ _ counted
 
-    pub entry-small : Small r.answer
+    pub entry-small : Small a
     entry-small = subst Small (sym d.answer) (fed-small (feed c (entry_of entry)).answer _ _ counted)
 
-    pub entry-fits : (at room : ℕ) → at + length (logged (feed c (entry_of entry)).answer) ≤ room → at + length (fed_log r.answer after) ≤ room
+    pub entry-fits : (at room : ℕ) → at + length (logged (feed c (entry_of entry)).answer) ≤ room → at + length (fed_log a after) ≤ room
     entry-fits at room = subst (λ (l : List ℕ). at + length l ≤ room) (sym same_log)
 
-    pub entry-logs : {log log' : List ℕ} {at end : ℕ} → Appends log at (fed_log r.answer after) log' end
-        → Does c entry log at (record { head = r.collector.head; end = end }) r.collector.store log'
-    entry-logs {log} {log'} {at} {end} a =
+    pub entry-logs : {log log' : List ℕ} {at end : ℕ} → Appends log at (fed_log a after) log' end
+        → Does c entry log at image.head end image.store log'
+    entry-logs {log} {log'} {at} {end} laid =
         record {
           state = record { valid = valid-feed c (entry_of entry) v (drop-octets 8 entry o); image = d.collector };
-          appends = subst (λ (l : List ℕ). Appends log at l log' end) same_log a;
+          appends = subst (λ (l : List ℕ). Appends log at l log' end) same_log laid;
         }

@@ -1,12 +1,11 @@
 -- A recorded drive: its entries, fed to a fresh collector one after another, and the log of the answers.
 -- Leans on the collector, on the number that bits are, and on the numbers of the refusals.
-use Rattle.std.specs.Prelude.{ℕ, zero, suc, ◌*◌, ◌/◌, ◌%◌, Bool, not, ◌&&◌, cond, List, [], ◌∷◌, ◌++◌, ◌≡◌, eqb, leb, length, take, drop}
+use Rattle.std.specs.Prelude.{ℕ, zero, suc, ◌*◌, ◌/◌, ◌%◌, Bool, not, ◌&&◌, cond, List, [], ◌∷◌, ◌++◌, ◌≡◌, eqb, leb, length, take, drop, Result, Ok, Err}
 use Rattle.refusal.specs.Number.{number_of}
 use Rattle.refusal.specs.declared.Refusal.TheVariants.{Length, Out, Timeout}
 use Rattle.bits.specs.Bits.{bits_of, value}
 use Rattle.collector.specs.Feed.{Answer, kept, ready, refused, Call, fresh, startable, answers}
-use Rattle.drive.specs.declared.replaying.Replayed.{Replayed}
-use Rattle.drive.specs.declared.replaying.Replayed.TheVariants.{Octets, Refused}
+use Rattle.refusal.specs.declared.Refusal.{Refusal}
 
 -- an entry is 64 octets: a second (8 octets, the highest first) and a page of 56. The buffer that a feed takes has 1,696 octets.
 abbrev pub entry_of : List ℕ → Call
@@ -37,19 +36,19 @@ are_entries n = eqb (n % 64) 0 && leb n 4294967296
 
 -- the checks in their order: LENGTH for octets that are no entries, OUT for a log that is not exactly 55 octets for each entry, TIMEOUT for a time-out that is not 1 to 600 s.
 -- The answer is how many octets of log
-unfoldable pub replay_answer : ℕ → List ℕ → ℕ → Replayed
+unfoldable pub replay_answer : ℕ → List ℕ → ℕ → Result ℕ Refusal
 replay_answer timeout octets room =
-    cond (not (are_entries (length octets))) (Refused Length)
-    (cond (not (eqb room (55 * (length octets / 64)))) (Refused Out)
-    (cond (not (startable timeout)) (Refused Timeout)
-    (Octets (length (log_of timeout octets)))))
+    cond (not (are_entries (length octets))) (Err Length)
+    (cond (not (eqb room (55 * (length octets / 64)))) (Err Out)
+    (cond (not (startable timeout)) (Err Timeout)
+    (Ok (length (log_of timeout octets)))))
 
 -- the log is in front of the buffer, the rest is untouched; a refusal writes nothing
-abbrev pub replay_buffer : Replayed → List ℕ → List ℕ → List ℕ
-replay_buffer (Octets n) log before = log ++ drop n before
-replay_buffer (Refused r) log before = before
+abbrev pub replay_buffer : Result ℕ Refusal → List ℕ → List ℕ → List ℕ
+replay_buffer (Ok n) log before = log ++ drop n before
+replay_buffer (Err r) log before = before
 
 -- the contract of `replay`, whose buffer holds `before`, and then `after`
-pub record Replays (timeout : ℕ) (octets before : List ℕ) (r : Replayed) (after : List ℕ) : Type 0 where
+pub record Replays (timeout : ℕ) (octets before : List ℕ) (r : Result ℕ Refusal) (after : List ℕ) : Type 0 where
   pub answered : r ≡ replay_answer timeout octets (length before)
   pub buffer : after ≡ replay_buffer r (log_of timeout octets) before

@@ -4,4 +4,4 @@
 mod logging;
 mod replaying;
 
-pub use replaying::{Replayed, replay};
+pub use replaying::replay;

@@ -17,7 +17,7 @@ use Rattle.image.specs.Calls.{Feeds}
 use Rattle.image.proofs.Settled.{one-feed}
 use Rattle.drive.specs.Drive.{Replays}
 use Rattle.drive.proofs.Settled.{one-replay}
-use Rattle.has_c.specs.Codes.{Code, Is, Codes, page_code, read_code, write_code, fed_code, replay_code}
+use Rattle.has_c.specs.Codes.{Code, Is, Codes, page_code, read_code, value_code, fed_code}
 
 -- a code is that of one number
 pub one_number : (c d : Code) (r r' : ℕ) → c ≡ d → Is c r → Is d r' → r ≡ r'
@@ -45,11 +45,11 @@ one-solving contents numbers before k = one_code (Solved contents numbers before
 pub one-read : (c : reader.Call) (before : List ℕ) → One (reader.Reads reader.reading c before) read_code
 one-read c before = one_code (reader.Reads reader.reading c before) read_code (one-reading reader.reading c before)
 
-pub one-write : (c : writer.Call) (before : List ℕ) → One (writer.Writes c before) write_code
-one-write c before = one_code (writer.Writes c before) write_code (one-writing c before)
+pub one-write : (c : writer.Call) (before : List ℕ) → One (writer.Writes c before) value_code
+one-write c before = one_code (writer.Writes c before) value_code (one-writing c before)
 
-pub one-replaying : (timeout : ℕ) (octets before : List ℕ) → One (Replays timeout octets before) replay_code
-one-replaying timeout octets before = one_code (Replays timeout octets before) replay_code (one-replay timeout octets before)
+pub one-replaying : (timeout : ℕ) (octets before : List ℕ) → One (Replays timeout octets before) value_code
+one-replaying timeout octets before = one_code (Replays timeout octets before) value_code (one-replay timeout octets before)
 
 -- of a feed, head and store are written beside the buffer
 pub one-fed : (held : Image) (call : Call) (before : List ℕ) (next next' : Image) (after after' : List ℕ) (r r' : ℕ)

@@ -7,9 +7,10 @@ use native.Mathlib.Omega.{arith}
 use lib.ListN.{length}
 use borrow.Author.Tests.{lt-leb, le-leb}
 use Rattle.refusal.specs.declared.Refusal.TheVariants.{Length}
-use Rattle.pagecode.specs.declared.Answer.TheVariants.{Refused}
+use Rattle.std.specs.Prelude.{Err}
+use Rattle.pagecode.specs.Answer.{Answer}
 use Rattle.pagecode.specs.Solve.{solve_answer}
 
-pub too_many : (contents numbers : List ℕ) (room : ℕ) → 32 < length numbers → Refused Length ≡ solve_answer contents numbers room
+pub too_many : (contents numbers : List ℕ) (room : ℕ) → 32 < length numbers → ◌≡◌ {A = Answer} (Err Length) (solve_answer contents numbers room)
 unfolding solve_answer
 too_many contents numbers room h = simp (le-leb 1 (length numbers) (omega arith), lt-leb (length numbers) 32 h)

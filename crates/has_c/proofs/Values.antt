@@ -6,6 +6,7 @@ use mathlib.Core.Bool.{Bool, true, false}
 use mathlib.Core.List.{List}
 use mathlib.Core.Option.{Option, none, some}
 use mathlib.Core.Path.{◌≡◌, refl, sym, ap, subst}
+use Rattle.std.specs.Prelude.{Result, Ok, Err}
 use lib.Dec.{eqb, leb, ltb}
 use lib.ListN.{length}
 use borrow.Author.Tests.{ltb-false, leb-true, le-leb}
@@ -23,8 +24,8 @@ use Rattle.collector.proofs.Holdings.{held_in, Counted, feed-counted}
 use Rattle.image.specs.Octets.{Image}
 use Rattle.image.specs.Calls.{Feeds, of, not-one}
 use Rattle.drive.specs.Drive.{are_entries, replay_answer, Replays}
-use Rattle.drive.specs.declared.replaying.Replayed.{Replayed}
 use Rattle.drive.proofs.Room.{log-fits}
+use Rattle.mt1.specs.declared.answer.RefusalAt.{RefusalAt}
 use Rattle.mt1.specs.Parse.{Outcome, got, bad}
 use Rattle.mt1.specs.Message.{Message}
 use Rattle.mt1.specs.Mt1.{message, Lent}
@@ -34,11 +35,8 @@ use Rattle.mt1.proofs.Ends.{Ends, message-ends}
 use Rattle.mt1.proofs.Inverted.{inverse, ok-masked, records-used}
 use Rattle.reader.specs.Reader.{Call, Reads, reading_if, reading, answer_of}
 use Rattle.reader.proofs.Answers.{not-pages}
-use Rattle.reader.specs.declared.reading.ReadAnswer.{ReadAnswer}
 use Rattle.writer.specs.Writer as writer
-use Rattle.writer.specs.declared.writing.WriteAnswer.{WriteAnswer}
-use Rattle.writer.specs.declared.writing.WriteAnswer.TheVariants.{Size, Refused}
-use Rattle.has_c.specs.Codes.{read_code, write_code, time_code, fed_code, replay_code}
+use Rattle.has_c.specs.Codes.{read_code, value_code, fed_code}
 
 -- ---- the reader
 outcome-few : (lent : Lent) (bs : List Bool) (o : Outcome Message) → message lent bs 0 ≡ o → length bs ≤ 13568 → Ends (length bs) o → (read_code (answer_of lent o)).value < 4294967296
@@ -67,22 +65,22 @@ reading-few c =
     (λ (a : leb 53 n ≡ false). clash e (not-pages n (λ x y z. clash (le-leb 53 n x) a)))))
     (λ (e : are_pages (n / 53) n ≡ false). rw e (omega arith))
 
-pub read-few : (c : Call) (before : List ℕ) (a : ReadAnswer) (after : List ℕ) → Reads reading c before a after → (read_code a).value < 4294967296
-read-few c before a after r = subst (λ (x : ReadAnswer). (read_code x).value < 4294967296) (sym r.answered) (reading-few c)
+pub read-few : (c : Call) (before : List ℕ) (a : Result ℕ RefusalAt) (after : List ℕ) → Reads reading c before a after → (read_code a).value < 4294967296
+read-few c before a after r = subst (λ (x : Result ℕ RefusalAt). (read_code x).value < 4294967296) (sym r.answered) (reading-few c)
 
 -- ---- the writer
-size_few : (c : writer.Call) (before : List ℕ) (k : ℕ) (after : List ℕ) → writer.Writes c before (Size k) after → (o : Option Refusal) → writer.check c ≡ o → k < 4294967296
+size_few : (c : writer.Call) (before : List ℕ) (k : ℕ) (after : List ℕ) → writer.Writes c before (Ok k) after → (o : Option Refusal) → writer.check c ≡ o → k < 4294967296
 size_few c before k after w none e =
     let (bs, x, y) = (w.judged e).size k refl in
     omega (arith, x.size.1)
 size_few c before k after w (some r) e = absurd (let f = w.checks r e in let z : ◌≡◌ {A = ℕ} 0 1 = cc in let v : ⊥ = omega arith in v)
 
-pub write-few : (c : writer.Call) (before : List ℕ) (a : WriteAnswer) (after : List ℕ) → writer.Writes c before a after → (write_code a).value < 4294967296
-write-few c before (Refused r) after w = omega arith
-write-few c before (Size k) after w = size_few c before k after w (writer.check c) refl
+pub write-few : (c : writer.Call) (before : List ℕ) (a : Result ℕ Refusal) (after : List ℕ) → writer.Writes c before a after → (value_code a).value < 4294967296
+write-few c before (Err r) after w = omega arith
+write-few c before (Ok k) after w = size_few c before k after w (writer.check c) refl
 
 -- ---- the reference time
-pub time-few : (second time : ℕ) → (time_code (reference_time second time)).value < 4294967296
+pub time-few : (second time : ℕ) → (value_code (reference_time second time)).value < 4294967296
 unfolding reference_time
 time-few second time = on_bool (ltb 2477260799 second)
     (λ (e : ltb 2477260799 second ≡ true). rw e (omega arith))
@@ -96,14 +94,14 @@ answer-few (kept n) before after h = omega (arith, h.0)
 answer-few (ready k octets) before after h = omega (arith, h.0)
 answer-few (refused r) before after h = omega arith
 
-pub feed-few : (held : Image) (call : collector.Call) (before : List ℕ) (a : Fed) (next : Image) (after : List ℕ) → Octets call.page → Feeds held call before a next after → (fed_code a).value < 4294967296
+pub feed-few : (held : Image) (call : collector.Call) (before : List ℕ) (a : Result Fed Refusal) (next : Image) (after : List ℕ) → Octets call.page → Feeds held call before a next after → (fed_code a).value < 4294967296
 feed-few held call before a next after o (of c v e d) =
-    subst (λ (x : Fed). (fed_code x).value < 4294967296) (sym d.answer)
+    subst (λ (x : Result Fed Refusal). (fed_code x).value < 4294967296) (sym d.answer)
     (answer-few (collector.feed c call).answer (held_in c.places) (held_in (collector.feed c call).after.places) (feed-counted c call v o))
-feed-few held call before a next after o (not-one n r i b) = subst (λ (x : Fed). (fed_code x).value < 4294967296) (sym r) (omega arith)
+feed-few held call before a next after o (not-one n r i b) = subst (λ (x : Result Fed Refusal). (fed_code x).value < 4294967296) (sym r) (omega arith)
 
 -- ---- a drive
-log-few : (timeout : ℕ) (octets : List ℕ) (room : ℕ) → Octets octets → (replay_code (replay_answer timeout octets room)).value < 4294967296
+log-few : (timeout : ℕ) (octets : List ℕ) (room : ℕ) → Octets octets → (value_code (replay_answer timeout octets room)).value < 4294967296
 unfolding replay_answer are_entries
 log-few timeout octets room o =
     let n = length octets in
@@ -115,5 +113,5 @@ log-few timeout octets room o =
     (λ (f : eqb room (55 * (n / 64)) ≡ false). rw (e, f) (omega arith)))
     (λ (e : are_entries n ≡ false). rw e (omega arith))
 
-pub replay-few : (timeout : ℕ) (octets before : List ℕ) (a : Replayed) (after : List ℕ) → Octets octets → Replays timeout octets before a after → (replay_code a).value < 4294967296
-replay-few timeout octets before a after o r = subst (λ (x : Replayed). (replay_code x).value < 4294967296) (sym r.answered) (log-few timeout octets (length before) o)
+pub replay-few : (timeout : ℕ) (octets before : List ℕ) (a : Result ℕ Refusal) (after : List ℕ) → Octets octets → Replays timeout octets before a after → (value_code a).value < 4294967296
+replay-few timeout octets before a after o r = subst (λ (x : Result ℕ Refusal). (value_code x).value < 4294967296) (sym r.answered) (log-few timeout octets (length before) o)

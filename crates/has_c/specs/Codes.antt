@@ -1,20 +1,12 @@
 -- What a call answers in C: one number of 64 bits, the refusal's number in its high 32 bits, 0 for none, and the value in its low 32 bits.
 -- Leans on the numbers of the refusals, and on the answers of the calls.
-use Rattle.std.specs.Prelude.{ℕ, ◌+◌, ◌/◌, ◌%◌, ◌≡◌}
+use Rattle.std.specs.Prelude.{ℕ, ◌+◌, ◌/◌, ◌%◌, ◌≡◌, Result, Ok, Err}
 use Rattle.refusal.specs.declared.Refusal.{Refusal}
 use Rattle.refusal.specs.Number.{number_of}
-use Rattle.pagecode.specs.declared.Answer.{Answer}
-use Rattle.pagecode.specs.declared.Answer.TheVariants as page-answer
+use Rattle.pagecode.specs.Answer.{Answer}
 use Rattle.collector.specs.declared.state.Fed.{Fed}
-use Rattle.collector.specs.declared.state.Fed.TheVariants as fed
-use Rattle.drive.specs.declared.replaying.Replayed.{Replayed}
-use Rattle.drive.specs.declared.replaying.Replayed.TheVariants as replayed
-use Rattle.mt1.specs.declared.answer.TimeAnswer.{TimeAnswer}
-use Rattle.mt1.specs.declared.answer.TimeAnswer.TheVariants as time-answer
-use Rattle.reader.specs.declared.reading.ReadAnswer.{ReadAnswer}
-use Rattle.reader.specs.declared.reading.ReadAnswer.TheVariants as read_answer
-use Rattle.writer.specs.declared.writing.WriteAnswer.{WriteAnswer}
-use Rattle.writer.specs.declared.writing.WriteAnswer.TheVariants as write-answer
+use Rattle.collector.specs.declared.state.Fed.TheVariants.{Kept, Ready}
+use Rattle.mt1.specs.declared.answer.RefusalAt.{RefusalAt}
 
 pub record Code : Type 0 where
   pub number : ℕ
@@ -38,31 +30,21 @@ refused r value = record { number = number_of r; value = value }
 
 -- of an answer that has no value of its own: that of the call
 abbrev pub page_code : ℕ → Answer → Code
-page_code value page-answer.Good = good value
-page_code value (page-answer.Refused r) = refused r 0
+page_code value (Ok _) = good value
+page_code value (Err r) = refused r 0
 
 -- how many records, or the bit place of the refusal
-abbrev pub read_code : ReadAnswer → Code
-read_code (read_answer.Records n) = good n
-read_code (read_answer.Refused r) = refused r.why r.place
+abbrev pub read_code : Result ℕ RefusalAt → Code
+read_code (Ok n) = good n
+read_code (Err r) = refused r.why r.place
 
--- the size
-abbrev pub write_code : WriteAnswer → Code
-write_code (write-answer.Size k) = good k
-write_code (write-answer.Refused r) = refused r 0
-
--- the second
-abbrev pub time_code : TimeAnswer → Code
-time_code (time-answer.At second) = good second
-time_code (time-answer.Refused r) = refused r 0
+-- the size that is written, the second that a time of hour means, or how many octets of log
+abbrev pub value_code : Result ℕ Refusal → Code
+value_code (Ok value) = good value
+value_code (Err r) = refused r 0
 
 -- 1 for KEPT and 2 for READY in bits 24 to 31, the count or the size below
-abbrev pub fed_code : Fed → Code
-fed_code (fed.Kept n) = good (16777216 + n)
-fed_code (fed.Ready k) = good (33554432 + k)
-fed_code (fed.Refused r) = refused r 0
-
--- how many octets of log
-abbrev pub replay_code : Replayed → Code
-replay_code (replayed.Octets n) = good n
-replay_code (replayed.Refused r) = refused r 0
+abbrev pub fed_code : Result Fed Refusal → Code
+fed_code (Ok (Kept n)) = good (16777216 + n)
+fed_code (Ok (Ready k)) = good (33554432 + k)
+fed_code (Err r) = refused r 0

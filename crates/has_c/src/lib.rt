@@ -11,13 +11,12 @@ ghost use Rattle.writer.specs.Writer.{Writes};
 ghost use Rattle.mt1.specs.Time.{reference_time};
 ghost use Rattle.image.specs.Calls.{started_answer, started, Feeds};
 ghost use Rattle.drive.specs.Drive.{Replays};
-ghost use Rattle.has_c.specs.Codes.{Is, Codes, page_code, read_code, write_code, time_code, fed_code, replay_code};
+ghost use Rattle.has_c.specs.Codes.{Is, Codes, page_code, read_code, value_code, fed_code};
 
-use codes::{coded, fed_code, page_code, read_code, replay_code, time_code, write_code};
+use codes::{fed_code, page_code, read_code, value_code};
+use refusal::Refusal;
 
 const MOST_PAGES: usize = 32;
-
-const LENGTH: u64 = 1;
 
 // One page of a message; the value is 0.
 #[unsafe(no_mangle)]
@@ -38,13 +37,9 @@ fn wide_numbers(numbers: &[u8]) -> [u64; 32]
     requires { length numbers.now ≤ 32 }
     ensures { take (length numbers.now) result ≡ numbers.now }
 {
-    let mut wide = [0u64; MOST_PAGES];
-    let mut i: usize = 0;
-    while i < numbers.len() {
-        wide[i] = numbers[i] as u64;
-        i += 1;
-    }
-    wide
+    let mut few = [0; MOST_PAGES];
+    few[..numbers.len()].copy_from_slice(numbers);
+    few.map(u64::from)
 }
 
 // The message of as many pages as there are numbers; the value is how many.
@@ -54,7 +49,7 @@ pub extern "C" fn has_solve(contents: &[u8], numbers: &[u8], out: &mut [u8]) -> 
 {
     let k = numbers.len();
     if k > MOST_PAGES {
-        return coded(LENGTH, 0);
+        return page_code(Err(Refusal::Length), 0);
     }
     let wide = wide_numbers(numbers);
     page_code(pagecode::solve(contents, &wide[..k], out), k as u64)
@@ -71,17 +66,17 @@ pub extern "C" fn has_read(message: &[u8], mask_id: u64, mask: &[u8], records: &
 // The message of records; the value is its size.
 #[unsafe(no_mangle)]
 pub extern "C" fn has_write(records: &[u8], mask_id: u64, mask: &[u8], out: &mut [u8]) -> u64
-    ensures { Codes (λ a. Writes (record { records = records.now; lent = record { id = mask_id; octets = mask.now }; room = length out.old }) out.old a out.new) write_code result }
+    ensures { Codes (λ a. Writes (record { records = records.now; lent = record { id = mask_id; octets = mask.now }; room = length out.old }) out.old a out.new) value_code result }
 {
-    write_code(writer::write(records, mask_id, mask, out))
+    value_code(writer::write(records, mask_id, mask, out))
 }
 
 // The second that a time of hour means; the value is the second.
 #[unsafe(no_mangle)]
 pub extern "C" fn has_reference_time(second: u64, time: u64) -> u64
-    ensures { Is (time_code (reference_time second time)) result }
+    ensures { Is (value_code (reference_time second time)) result }
 {
-    time_code(mt1::reference_time(second, time))
+    value_code(mt1::reference_time(second, time))
 }
 
 // A fresh collector, in octets; the value is 0.
@@ -111,7 +106,7 @@ pub extern "C" fn has_feed(
 // A recorded drive; the value is how many octets of log it has.
 #[unsafe(no_mangle)]
 pub extern "C" fn has_replay(timeout: u64, entries: &[u8], log: &mut [u8]) -> u64
-    ensures { Codes (λ a. Replays timeout entries.now log.old a log.new) replay_code result }
+    ensures { Codes (λ a. Replays timeout entries.now log.old a log.new) value_code result }
 {
-    replay_code(drive::replay(timeout, entries, log))
+    value_code(drive::replay(timeout, entries, log))
 }

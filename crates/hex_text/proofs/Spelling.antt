@@ -1,12 +1,13 @@
 -- The loop that spells octets: after i turns the digits of the first i octets stand at the start of the text.
 -- Each turn sets the two digits behind those that stand there.
-use Prim.Native.Nat.{ℕ, ◌+◌, ◌*◌, ◌/◌, ◌%◌, ◌≤◌, ◌<◌}
+use Prim.Native.Nat.{ℕ, min, ◌+◌, ◌*◌, ◌/◌, ◌%◌, ◌≤◌, ◌<◌}
 use mathlib.Core.Path.{◌≡◌, refl, sym, ap, ap₂, ◌∙◌}
 use mathlib.Core.List.{List, [], ◌∷◌, ◌++◌}
 use native.Mathlib.Numerals.{add-one}
 use native.Mathlib.Omega.{arith}
 use lib.ListN.{length, get_or, set, take}
-use lib.Seq.{take_all, take-suc, length-take-le}
+use lib.Seq.{take-suc, length-take-le}
+use Rattle.std.proofs.lemmas.List.{take_min}
 use Rattle.lists.proofs.Laid.{laid_one, laid-laid, laid-length, laid_none}
 use Rattle.lists.specs.Lists.{laid}
 use Rattle.hex_text.specs.Hex.{digit_of, hex_of, digits_for, Spelt}
@@ -55,21 +56,10 @@ module _ (octets text v : List ℕ) (i : ℕ) (few : i ≤ length octets) (e : v
       ∙ laid-laid text 0 (hex_of (take i octets)) (p ∷ q ∷ []) (omega (arith, digits))
       ∙ ap (laid text 0) (sym grown)
 
-  -- the octets that are left out have no room
-  done : 2 * i ≤ length text → take i octets ≡ take (length text / 2) octets
-      → Spelt octets text (2 * i) v × ((2 * i ≤ length v) × (2 * i ≡ length (take (2 * i) v)))
-  unfolding digits_for
-  done room all = (
-    record { counted = sym digits ∙ ap (λ (l : List ℕ). length (hex_of l)) all; text = e ∙ ap (λ (l : List ℕ). laid text 0 (hex_of l)) all },
-    (omega (arith, same room), sym (length-take-le (2 * i) v (omega (arith, same room)))),
-  )
-
-  -- there is no room for another octet
-  pub full : 2 * i ≤ length text → length text < 2 * i + 2 → Spelt octets text (2 * i) v × ((2 * i ≤ length v) × (2 * i ≡ length (take (2 * i) v)))
-  full room short =
-      let half : i ≡ length text / 2 = omega arith in
-      done room (ap (λ (n : ℕ). take n octets) half)
-
-  -- there is no other octet
-  pub all : 2 * i ≤ length text → length octets ≤ i → Spelt octets text (2 * i) v × ((2 * i ≤ length v) × (2 * i ≡ length (take (2 * i) v)))
-  all room none = done room (take_all i octets none ∙ sym (take_all (length text / 2) octets (omega arith)))
+-- at the end: the octets that are left out have no room
+pub done : (octets text v : List ℕ) (n : ℕ) → n ≡ min (length octets) (length text / 2) → v ≡ laid text 0 (hex_of (take n octets)) → Spelt octets text (2 * n) v
+unfolding digits_for
+done octets text v n least e =
+    let few : n ≤ length octets = omega arith in
+    let all : take n octets ≡ take (length text / 2) octets = ap (λ (k : ℕ). take k octets) (omega arith) ∙ take_min (length text / 2) octets in
+    record { counted = sym (digits octets text v n few e) ∙ ap (λ (l : List ℕ). length (hex_of l)) all; text = e ∙ ap (λ (l : List ℕ). laid text 0 (hex_of l)) all }

@@ -11,12 +11,11 @@ use borrow.Author.Tests.{leb-true, eq-eqb}
 use Rattle.refusal.specs.declared.Refusal.{Refusal}
 use Rattle.refusal.specs.declared.Refusal.TheVariants.{Length, Form}
 use Rattle.refusal.specs.Number.{number_of}
-use Rattle.pagecode.specs.declared.Answer.{Answer as StartAnswer}
-use Rattle.pagecode.specs.declared.Answer.TheVariants as start-answer
+use Rattle.std.specs.Prelude.{Result, Ok, Err}
+use Rattle.pagecode.specs.Answer.{Answer as StartAnswer}
 use Rattle.pagecode.specs.Field.{Octets}
 use Rattle.pagecode.specs.Page.{legal, header_of, is_dummy}
 use Rattle.collector.specs.declared.state.Fed.{Fed}
-use Rattle.collector.specs.declared.state.Fed.TheVariants.{Refused}
 use Rattle.collector.specs.Place.{Key, Held, Place, free, waiting, done, is_free, find, any_free, lookup}
 use Rattle.collector.specs.Feed.{Collector, Answer, kept, ready, refused, Call, fresh, startable, start_answer, tick, judge, same_octets, grow, again, arrive, hold, received, feed}
 use Rattle.collector.specs.Valid.{Valid}
@@ -34,8 +33,8 @@ Imaged i = (c : Collector) × Valid c × (i ≡ image_of c)
 
 -- ---- after a good start
 is_good : StartAnswer → Bool
-is_good start-answer.Good = true
-is_good (start-answer.Refused r) = false
+is_good (Ok _) = true
+is_good (Err r) = false
 
 module _ (held : Image) (timeout : ℕ) where
   in-range : startable timeout ≡ true → Valid (fresh timeout)
@@ -43,7 +42,7 @@ module _ (held : Image) (timeout : ℕ) where
   in-range e =
       valid-fresh timeout (leb-true 1 timeout (and_left (leb 1 timeout) (leb timeout 600) e)) (leb-true timeout 600 (and_right (leb 1 timeout) (leb timeout 600) e))
 
-  pub start-again : started_answer held timeout ≡ start-answer.Good → Imaged (started held timeout)
+  pub start-again : started_answer held timeout ≡ Ok tt → Imaged (started held timeout)
   unfolding started_answer started start_answer is_good
   start-again =
       on_bool (is_long held)
@@ -100,21 +99,21 @@ feed-not c f h =
     (λ e₂. rw (e₁, e₂))
 
 -- ---- after any feed
-answer-of : (a : Answer) (r : Refusal) → answer_image a ≡ Refused r → a ≡ refused r
+answer-of : (a : Answer) (r : Refusal) → answer_image a ≡ Err r → a ≡ refused r
 answer-of (kept n) r e = cc
 answer-of (ready k octets) r e = cc
 answer-of (refused q) r e = cc
 
-module _ (held : Image) (call : Call) (before : List ℕ) (r : Fed) (next : Image) (after : List ℕ) where
+module _ (held : Image) (call : Call) (before : List ℕ) (r : Result Fed Refusal) (next : Image) (after : List ℕ) where
   pub feed-again : Octets call.page → Imaged held → Feeds held call before r next after → Imaged next
   feed-again o (c, v, e) (of c' v' e' d) = ((feed c' call).after, valid-feed c' call v' o, d.image)
   feed-again o (c, v, e) (not-one n a i b) = absurd (n c v e)
 
-  pub never-form : Imaged held → Feeds held call before r next after → r ≡ Refused Form → ⊥
+  pub never-form : Imaged held → Feeds held call before r next after → r ≡ Err Form → ⊥
   never-form (c, v, e) (of c' v' e' d) f = no_other c' call Form refl (answer-of (feed c' call).answer Form (sym d.answer ∙ f))
   never-form (c, v, e) (not-one n a i b) f = n c v e
 
-  pub never-length : length call.page ≡ 56 → Imaged held → Feeds held call before r next after → r ≡ Refused Length → ⊥
+  pub never-length : length call.page ≡ 56 → Imaged held → Feeds held call before r next after → r ≡ Err Length → ⊥
   unfolding is_length
   never-length h (c, v, e) (of c' v' e' d) f = clash (ap is_length (answer-of (feed c' call).answer Length (sym d.answer ∙ f))) (feed-not c' call h)
   never-length h (c, v, e) (not-one n a i b) f = n c v e

@@ -1,6 +1,6 @@
 -- Octets laid one behind another, and the place that octets are read at.
 -- What is laid where the last ended is laid with it at once.
-use mathlib.Core.Path.{◌≡◌, refl, ap, ◌∙◌}
+use mathlib.Core.Path.{◌≡◌, ap, ◌∙◌}
 use mathlib.Core.List.{List, [], ◌∷◌, ◌++◌}
 use Prim.Native.Nat.{ℕ, ◌+◌, ◌≤◌, ◌<◌}
 use native.Mathlib.Omega.{arith}
@@ -15,8 +15,3 @@ laid_on d at n l m e h = ap (λ (k : ℕ). laid (laid d at l) k m) e ∙ laid-la
 -- one octet behind it
 pub set_on : (d : List ℕ) (at n : ℕ) (l : List ℕ) (x : ℕ) → n ≡ at + length l → n < length d → set (laid d at l) n x ≡ laid d at (l ++ (x ∷ []))
 set_on d at n l x e h = laid_one (laid d at l) n x (omega (arith, laid-length d at l (omega arith))) ∙ laid_on d at n l (x ∷ []) e (omega arith)
-
--- four octets, one by one
-pub set-four : (d : List ℕ) (at a b c e : ℕ) → at + 4 ≤ length d → set (set (set (set d at a) (at + 1) b) (at + 2) c) (at + 3) e ≡ laid d at (a ∷ b ∷ c ∷ e ∷ [])
-set-four d at a b c e h =
-    rw (laid_one d at a (omega arith), set_on d at (at + 1) (a ∷ []) b refl (omega arith), set_on d at (at + 2) (a ∷ b ∷ []) c refl (omega arith)) (set_on d at (at + 3) (a ∷ b ∷ c ∷ []) e refl (omega arith))

@@ -23,10 +23,6 @@ state-laid d at a b c e first count l m h i j =
     ap (λ (s : List ℕ). set s (at + 8) count) (j ∙ ap (λ (s : List ℕ). laid s (at + 4) (word first)) i ∙ laid_on d at (at + 4) (a ∷ b ∷ c ∷ e ∷ []) (word first) refl (omega arith))
     ∙ set_on d at (at + 8) (a ∷ b ∷ c ∷ e ∷ word first) count refl (omega arith)
 
--- the octets of a state that is told by its case
-pub state-told : (d : List ℕ) (at : ℕ) (s case : PlaceState) (l : List ℕ) → s ≡ case → l ≡ laid d at (state_octets case) → l ≡ laid d at (state_octets s)
-state-told d at s case l e f = f ∙ ap (λ (x : PlaceState). laid d at (state_octets x)) (sym e)
-
 pub state-length : (s : PlaceState) → length (state_octets s) ≡ 9
 state-length Free = refl
 state-length (Open k first count) = refl

@@ -3,7 +3,9 @@
 use mathlib.Core.Path.{◌≡◌, sym, ◌∙◌, subst}
 use mathlib.Core.List.{List}
 use Prim.Native.Nat.{ℕ}
-use Rattle.pagecode.specs.declared.Answer.{Answer}
+use Rattle.std.specs.Prelude.{Result}
+use Rattle.refusal.specs.declared.Refusal.{Refusal}
+use Rattle.pagecode.specs.Answer.{Answer}
 use Rattle.collector.specs.declared.state.Fed.{Fed}
 use Rattle.collector.specs.Feed.{Collector, Call, feed}
 use Rattle.image.specs.Octets.{Image}
@@ -14,7 +16,7 @@ pub one-start : (held : Image) (timeout : ℕ) (r r' : Answer) (next next' : Ima
     → (r' ≡ started_answer held timeout) × (next' ≡ started held timeout) → (r ≡ r') × (next ≡ next')
 one-start held timeout r r' next next' (a, i) (a', i') = (a ∙ sym a', i ∙ sym i')
 
-pub one-feed : (held : Image) (call : Call) (before : List ℕ) (r r' : Fed) (next next' : Image) (after after' : List ℕ)
+pub one-feed : (held : Image) (call : Call) (before : List ℕ) (r r' : Result Fed Refusal) (next next' : Image) (after after' : List ℕ)
     → Feeds held call before r next after → Feeds held call before r' next' after' → (r ≡ r') × (next ≡ next') × (after ≡ after')
 one-feed held call before r r' next next' after after' (of c v e d) (of c' v' e' d') =
     let same : c' ≡ c = one-image c' c v' v (sym e' ∙ e) in

@@ -1,42 +1,38 @@
--- What the code reads from `at` on is what stands in front of the octets from `at` on.
--- The octet n behind `at` is the nth of those.
+-- What the code reads of a place is what stands in front of the octets from there on.
+-- A part that is read to the end is those octets.
 use mathlib.Core.Path.{◌≡◌, refl, ap, ◌∙◌}
 use mathlib.Core.Bool.{true, false}
 use mathlib.Core.List.{List}
-use Prim.Native.Nat.{ℕ, zero, suc, ◌+◌, ◌*◌, ◌<◌}
-use native.Mathlib.Nat.{add-zero}
+use Prim.Native.Nat.{ℕ, zero, suc, ◌+◌, ◌-◌, ◌*◌, ◌<◌}
 use native.Mathlib.Omega.{arith}
 use lib.Dec.{eqb}
-use lib.ListN.{length, get_or, drop}
-use lib.Seq.{get_or-drop, drop-drop}
+use lib.ListN.{length, get_or, take, drop, length-drop}
+use lib.Seq.{drop-drop, take_all}
 use Rattle.collector.specs.declared.state.Key.{Key}
 use Rattle.collector.specs.declared.state.PlaceState.TheVariants.{Free, Open, Done}
 use Rattle.collector.specs.declared.state.Place.{Place}
 use Rattle.image.specs.Reading.{word_at, key_at, state_at, place_at, places_at}
 
-pub word-at : (s : List ℕ) (at : ℕ) → get_or s at 0 * 16777216 + get_or s (at + 1) 0 * 65536 + get_or s (at + 2) 0 * 256 + get_or s (at + 3) 0 ≡ word_at (drop at s)
-unfolding word_at
-word-at s at = rw (get_or-drop at s 0 0, get_or-drop at s 1 0, get_or-drop at s 2 0, get_or-drop at s 3 0, add-zero at) refl
+-- a part that is read to the end is what is behind its place
+pub behind : (n : ℕ) (s : List ℕ) → take (length s - n) (drop n s) ≡ drop n s
+behind n s = take_all (length s - n) (drop n s) (omega (arith, length-drop n s))
 
-pub key-at : (s : List ℕ) (at : ℕ) → ◌≡◌ {A = Key} (record { status = get_or s (at + 1) 0; number = get_or s (at + 2) 0; size = get_or s (at + 3) 0 }) (key_at (drop at s))
-key-at s at = rw (get_or-drop at s 1 0, get_or-drop at s 2 0, get_or-drop at s 3 0) refl
+pub behind-head : (n : ℕ) (s : List ℕ) → length s ≡ 336 → take (336 - n) (drop n s) ≡ drop n s
+behind-head n s long = take_all (336 - n) (drop n s) (omega (arith, long, length-drop n s))
 
 -- ---- the state, by its first octet
-module _ (s : List ℕ) (at : ℕ) (k : Key) (first : ℕ) (is : k ≡ key_at (drop at s)) (then : first ≡ word_at (drop (at + 4) s)) where
-  kind : get_or (drop at s) 0 0 ≡ get_or s at 0
-  kind = get_or-drop at s 0 0 ∙ ap (λ (n : ℕ). get_or s n 0) (add-zero at)
-
-  pub open_at : eqb (get_or s at 0) 1 ≡ true → Open k first (get_or s (at + 8) 0) ≡ state_at (drop at s)
+module _ (s : List ℕ) (k : Key) (first : ℕ) (is : k ≡ key_at s) (then : first ≡ word_at (take (length s - 4) (drop 4 s))) where
+  pub open_at : eqb (get_or s 0 0) 1 ≡ true → Open k first (get_or s 8 0) ≡ state_at s
   unfolding state_at
-  open_at e = rw (is, then, kind, e, drop-drop 4 at s, get_or-drop at s 8 0) refl
+  open_at e = rw (is, then, behind 4 s, e) refl
 
-  pub done_at : eqb (get_or s at 0) 1 ≡ false → eqb (get_or s at 0) 2 ≡ true → Done k first ≡ state_at (drop at s)
+  pub done_at : eqb (get_or s 0 0) 1 ≡ false → eqb (get_or s 0 0) 2 ≡ true → Done k first ≡ state_at s
   unfolding state_at
-  done_at e f = rw (is, then, kind, e, f, drop-drop 4 at s) refl
+  done_at e f = rw (is, then, behind 4 s, e, f) refl
 
-pub free-at : (s : List ℕ) (at : ℕ) → eqb (get_or s at 0) 1 ≡ false → eqb (get_or s at 0) 2 ≡ false → Free ≡ state_at (drop at s)
+pub free-at : (s : List ℕ) → eqb (get_or s 0 0) 1 ≡ false → eqb (get_or s 0 0) 2 ≡ false → Free ≡ state_at s
 unfolding state_at
-free-at s at e f = rw (get_or-drop at s 0 0, add-zero at, e, f) refl
+free-at s e f = rw (e, f) refl
 
 -- ---- a place among places
 pub place_at_lem : (n : ℕ) (s : List ℕ) (i : ℕ) (z : Place) → i < n → get_or (places_at n s) i z ≡ place_at (drop (41 * i) s)

@@ -1,5 +1,5 @@
 // A head in 336 octets: the time-out, the last second, and eight places.
-ghost use Rattle.std.specs.Prelude.{◌≡◌, length};
+ghost use Rattle.std.specs.Prelude.{◌≡◌};
 ghost use Rattle.image.specs.Octets.{head_octets};
 ghost use Rattle.image.specs.Reading.{head_at};
 
@@ -15,45 +15,34 @@ const PLACES: usize = 8;
 const CLOCK_OCTETS: usize = 8;
 
 // Writes a head.
-pub fn write_head(head: Head, out: &mut [u8])
-    requires { length out.old ≡ 336 }
-    ensures { out.new ≡ head_octets head }
+pub fn write_head(head: &Head, out: &mut [u8; HEAD_OCTETS])
+    ensures { out.new ≡ head_octets head.now }
 {
     put_word(out, 0, head.timeout);
     put_word(out, 4, head.last);
-    let mut i: usize = 0;
-    while i < PLACES {
-        let place = head.places[i];
+    for (i, place) in head.places.iter().enumerate() {
         write_place(out, CLOCK_OCTETS + PLACE_OCTETS * i, place);
-        i += 1;
     }
 }
 
 // The eight places that stand in octets.
-fn read_places(octets: &[u8]) -> [Place; PLACES]
-    requires { length octets.now ≡ 336 }
+fn read_places(octets: &[u8; HEAD_OCTETS]) -> [Place; PLACES]
     ensures { result ≡ (head_at octets.now).places }
 {
     let mut places = collector::free_places();
-    let mut i: usize = 0;
-    while i < PLACES {
-        places[i] = read_place(octets, CLOCK_OCTETS + PLACE_OCTETS * i);
-        i += 1;
+    for (i, place) in places.iter_mut().enumerate() {
+        *place = read_place(&octets[CLOCK_OCTETS + PLACE_OCTETS * i..]);
     }
     places
 }
 
 // The head that stands in octets.
-pub fn read_head(octets: &[u8]) -> Head
-    requires { length octets.now ≡ 336 }
+pub fn read_head(octets: &[u8; HEAD_OCTETS]) -> Head
     ensures { result ≡ head_at octets.now }
 {
-    let timeout = read_word(octets, 0);
-    let last = read_word(octets, 4);
-    let places = read_places(octets);
     Head {
-        timeout: timeout,
-        last: last,
-        places: places,
+        timeout: read_word(octets),
+        last: read_word(&octets[4..]),
+        places: read_places(octets),
     }
 }

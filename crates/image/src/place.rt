@@ -1,14 +1,15 @@
-// A place of the collector in 41 octets, from `at` on: nine of its state, and its 32 page numbers.
-ghost use Rattle.std.specs.Prelude.{◌≡◌, [], ◌∷◌, ◌++◌, ◌+◌, ◌≤◌, length, drop};
+// A place of the collector in 41 octets: nine of its state, and its 32 page numbers.
+ghost use Rattle.std.specs.Prelude.{◌≡◌, [], ◌∷◌, ◌++◌, ◌+◌, ◌≤◌, length};
 ghost use Rattle.lists.specs.Lists.{laid};
 ghost use Rattle.image.specs.Octets.{word, state_octets, place_octets};
 ghost use Rattle.image.specs.Reading.{key_at, state_at, place_at};
 
-use crate::octets::{put_four, put_octets, put_word, read_numbers, read_word};
+use crate::octets::{put_octets, put_word, read_numbers, read_word};
 use collector::{Key, Place, PlaceState};
 
 pub const PLACE_OCTETS: usize = 41;
 
+// The kinds stay numbers: each is an octet of the image's format, which `has_start` and `has_feed` of the C interface keep over a reset (`state_octets`).
 const FREE: u8 = 0;
 
 const OPEN: u8 = 1;
@@ -20,7 +21,7 @@ fn put_state(out: &mut [u8], at: usize, kind: u8, key: Key, first: u64, count: u
     requires { at + 9 ≤ length out.old }
     ensures { out.new ≡ laid out.old at (kind ∷ key.status ∷ key.number ∷ key.size ∷ (word first ++ (count ∷ []))) }
 {
-    put_four(out, at, kind, key.status, key.number, key.size);
+    put_octets(out, at, &[kind, key.status, key.number, key.size]);
     put_word(out, at + 4, first);
     out[at + 8] = count;
 }
@@ -49,54 +50,47 @@ fn write_state(out: &mut [u8], at: usize, state: PlaceState)
 }
 
 // Writes a place.
-pub fn write_place(out: &mut [u8], at: usize, place: Place)
+pub fn write_place(out: &mut [u8], at: usize, place: &Place)
     requires { at + 41 ≤ length out.old }
-    ensures { (out.new ≡ laid out.old at (place_octets place)) × (length (place_octets place) ≡ 41) }
+    ensures { (out.new ≡ laid out.old at (place_octets place.now)) × (length (place_octets place.now) ≡ 41) }
 {
-    let state = place.state;
-    let numbers = place.numbers;
-    write_state(out, at, state);
-    put_octets(out, at + 9, &numbers);
+    write_state(out, at, place.state);
+    put_octets(out, at + 9, &place.numbers);
 }
 
-// The key that stands there.
-fn read_key(octets: &[u8], at: usize) -> Key
-    requires { at + 9 ≤ length octets.now }
-    ensures { result ≡ key_at (drop at octets.now) }
+// The key of the state in front of octets.
+fn read_key(octets: &[u8]) -> Key
+    requires { 9 ≤ length octets.now }
+    ensures { result ≡ key_at octets.now }
 {
     Key {
-        status: octets[at + 1],
-        number: octets[at + 2],
-        size: octets[at + 3],
+        status: octets[1],
+        number: octets[2],
+        size: octets[3],
     }
 }
 
-// The state that stands there: free, unless its first octet says open or done.
-fn read_state(octets: &[u8], at: usize) -> PlaceState
-    requires { at + 9 ≤ length octets.now }
-    ensures { result ≡ state_at (drop at octets.now) }
+// The state in front of octets: free, unless its first octet says open or done.
+fn read_state(octets: &[u8]) -> PlaceState
+    requires { 9 ≤ length octets.now }
+    ensures { result ≡ state_at octets.now }
 {
-    let kind = octets[at];
-    let key = read_key(octets, at);
-    let first = read_word(octets, at + 4);
-    if kind == OPEN {
-        return PlaceState::Open(key, first, octets[at + 8] as usize);
+    let key = read_key(octets);
+    let first = read_word(&octets[4..]);
+    match octets[0] {
+        OPEN => PlaceState::Open(key, first, usize::from(octets[8])),
+        DONE => PlaceState::Done(key, first),
+        _ => PlaceState::Free,
     }
-    if kind == DONE {
-        return PlaceState::Done(key, first);
-    }
-    PlaceState::Free
 }
 
-// The place that stands there.
-pub fn read_place(octets: &[u8], at: usize) -> Place
-    requires { at + 41 ≤ length octets.now }
-    ensures { result ≡ place_at (drop at octets.now) }
+// The place in front of octets.
+pub fn read_place(octets: &[u8]) -> Place
+    requires { 41 ≤ length octets.now }
+    ensures { result ≡ place_at octets.now }
 {
-    let state = read_state(octets, at);
-    let numbers = read_numbers(octets, at + 9);
     Place {
-        state: state,
-        numbers: numbers,
+        state: read_state(octets),
+        numbers: read_numbers(&octets[9..]),
     }
 }

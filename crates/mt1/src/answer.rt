@@ -1,35 +1,19 @@
-// What the calls answer.
+// What the readers answer where they refuse.
 ghost use Rattle.std.specs.Prelude.{◌≡◌};
 ghost use Rattle.mt1.specs.Parse.{refuse as refuse_at};
 
 use refusal::Refusal;
 
 // A refusal and the bit place that it names.
-#[derive(Clone, Copy)]
+#[derive(Clone, Copy, Debug, PartialEq, Eq)]
 pub struct RefusalAt {
     pub why: Refusal,
     pub place: usize,
 }
 
+// The refusal of a reader at a bit place.
 pub fn refuse(why: Refusal, place: usize) -> RefusalAt
     ensures { result ≡ refuse_at why place }
 {
-    RefusalAt {
-        why: why,
-        place: place,
-    }
-}
-
-// The seconds of a validity interval.
-#[derive(Clone, Copy)]
-pub enum IntervalAnswer {
-    Seconds(u64),
-    Refused(Refusal),
-}
-
-// A reference time, in seconds.
-#[derive(Clone, Copy)]
-pub enum TimeAnswer {
-    At(u64),
-    Refused(Refusal),
+    RefusalAt { why, place }
 }

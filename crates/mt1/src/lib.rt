@@ -5,6 +5,6 @@ mod answer;
 mod interval;
 mod time;
 
-pub use answer::{IntervalAnswer, RefusalAt, TimeAnswer, refuse};
+pub use answer::{RefusalAt, refuse};
 pub use interval::interval_seconds;
 pub use time::reference_time;

@@ -21,7 +21,7 @@ use Rattle.pagecode.specs.Code.{plus, scale}
 use Rattle.pagecode.specs.System.{cell}
 use Rattle.pagecode.proofs.Linear.{⊕-comm, ⊕-zero}
 use Rattle.pagecode.proofs.Pieces.{piece, piece-length, piece-get}
-use Rattle.pagecode.proofs.Polynomials.{plus-get, scale-get, scale-length, plus-length}
+use Rattle.pagecode.proofs.Polynomials.{plus-get, scale-get, scale-length, plus-length, scale-octets, plus-octets, append-octets}
 
 -- ---- a cell is in the square or in the right sides
 module _ (n : List (List ℕ)) (s : List ℕ) (r c : ℕ) where
@@ -98,6 +98,17 @@ pub record Added (r f : ℕ) (x : ℕ → ℕ) (E F : ℕ → ℕ → ℕ) : Typ
 -- the right sides, of whose rows row r takes f times y
 abbrev pub more_side : List ℕ → ℕ → ℕ → List ℕ → List ℕ
 more_side s r f y = take (r * 53) s ++ plus (scale f y) (drop (r * 53) s)
+
+take-octets : (n : ℕ) (l : List ℕ) → Octets l → Octets (take n l)
+take-octets zero l o i = omega arith
+take-octets (suc n) [] o i = omega arith
+take-octets (suc n) (x ∷ l) o zero = o 0
+take-octets (suc n) (x ∷ l) o (suc i) = take-octets n l (λ k. o (suc k)) i
+
+pub side-octets : (s : List ℕ) (r f : ℕ) (y : List ℕ) → Octets s → Octets (more_side s r f y)
+side-octets s r f y o =
+    append-octets (take (r * 53) s) (plus (scale f y) (drop (r * 53) s)) (take-octets (r * 53) s o)
+    (plus-octets (scale f y) (drop (r * 53) s) (scale-octets f y) (λ i. omega (arith, get_or-drop (r * 53) s i 0, o (r * 53 + i))))
 
 -- the square, of whose rows row r takes f times x
 abbrev pub more_row : List (List ℕ) → ℕ → ℕ → List ℕ → List (List ℕ)

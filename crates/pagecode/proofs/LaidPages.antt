@@ -1,62 +1,78 @@
--- Pages that are laid into a buffer, one after another, each octet by octet.
--- A store leaves the other places as they were, and no two pages are laid at one place.
-use mathlib.Core.List.{List}
-use mathlib.Core.Logic.{◌≢◌, ◌⊎◌, inl, inr}
-use mathlib.Core.Path.{◌≡◌, refl, sym, ap, ◌∙◌}
+-- Pages that are laid into a buffer, one after another.
+-- A copy leaves the other places as they were, and no two pages are laid at one place.
+use mathlib.Core.List.{List, ◌++◌}
+use mathlib.Core.Logic.{◌≢◌}
+use mathlib.Core.Path.{◌≡◌, refl, sym, ap, ap₂, ◌∙◌, subst}
 use Prim.Native.Nat.{ℕ, suc, ◌+◌, ◌-◌, ◌*◌, ◌≤◌, ◌<◌}
 use native.Mathlib.Decide.{ℕ_discrete, dec_lt}
 use native.Mathlib.Omega.{arith}
-use lib.ListN.{length, get_or, set, length-set}
-use lib.Seq.{get_or-set_same, get_or-set_other}
+use lib.ListN.{length, get_or, take, drop, length-take, get_or-append}
+use borrow.Rule.Slice.PartMut.{put_mid}
+use lib.Seq.{get_or-append-add, get_or-take, get_or-drop}
+use Rattle.pagecode.proofs.Pieces.{piece, piece-length, piece-get}
 use Rattle.pagecode.specs.Reduction.{Spread, PageLaid, PagesLaid}
 
--- ---- n octets of a page: from `from` on in the source, from `at` on in v
-pub record Copied (source before : List ℕ) (from at : ℕ) (v : List ℕ) (n : ℕ) : Type 0 where
-  pub long : length v ≡ length before
-  pub upto : n ≤ 53
-  pub is : (t : ℕ) → t < n → get_or v (at + t) 0 ≡ get_or source (from + t) 0
-  pub rest : (m : ℕ) → (m < at) ⊎ (at + n ≤ m) → get_or v m 0 ≡ get_or before m 0
+-- ---- a part of a list that is overwritten by 53 others: what is below it, in it and above it
+module _ (w ys : List ℕ) (at : ℕ) (fits : at + 53 ≤ length w) (long : length ys ≡ 53) where
+  abbrev over : List ℕ
+  over = put_mid at 53 w ys
 
-module _ (source before : List ℕ) (from at : ℕ) where
-  pub copy_start : Copied source before from at before 0
-  copy_start = record { long = refl; upto = omega arith; is = λ t h. absurd (omega arith); rest = λ m h. refl }
+  front : length (take at w) ≡ at
+  front = omega (arith, length-take at w)
 
-  pub copy-turn : (v : List ℕ) (n : ℕ) → n < 53 → at + 53 ≤ length before → Copied source before from at v n → Copied source before from at (set v (at + n) (get_or source (from + n) 0)) (n + 1)
-  copy-turn v n h l c = record {
-    long = length-set v (at + n) x ∙ c.long;
-    upto = omega arith;
-    is = λ t b. pick t b (ℕ_discrete t n);
-    rest = λ m b. get_or-set_other v (at + n) m x 0 (far m b) ∙ c.rest m (less m b);
-  }
+  over-below : (i : ℕ) → i < at → get_or over i 0 ≡ get_or w i 0
+  over-below i l = get_or-append (take at w) _ 0 i (omega (arith, front)) ∙ get_or-take at w i 0 l
+
+  behind : (j : ℕ) → get_or over (at + j) 0 ≡ get_or (ys ++ drop 53 (drop at w)) j 0
+  behind j = ap (λ (i : ℕ). get_or over (i + j) 0) (sym front) ∙ get_or-append-add (take at w) _ j 0
+
+  over-at : (j : ℕ) → j < 53 → get_or over (at + j) 0 ≡ get_or ys j 0
+  over-at j l = behind j ∙ get_or-append ys _ 0 j (omega (arith, long))
+
+  over-above : (i : ℕ) → at + 53 ≤ i → get_or over i 0 ≡ get_or w i 0
+  over-above i h =
+      ap (λ (n : ℕ). get_or over n 0) (sym whole)
+      ∙ behind (length ys + (i - (at + 53))) ∙ get_or-append-add ys _ (i - (at + 53)) 0
+      ∙ get_or-drop 53 (drop at w) (i - (at + 53)) 0 ∙ get_or-drop at w (53 + (i - (at + 53))) 0 ∙ ap (λ (n : ℕ). get_or w n 0) same
     where
-      x : ℕ
-      x = get_or source (from + n) 0
+      whole : at + (length ys + (i - (at + 53))) ≡ i
+      whole = omega (arith, long)
 
-      pick : (t : ℕ) → t < n + 1 → Dec (t ≡ n) → get_or (set v (at + n) x) (at + t) 0 ≡ get_or source (from + t) 0
-      pick t b (yes e) =
-          ap (λ (m : ℕ). get_or (set v (at + n) x) (at + m) 0) e ∙ get_or-set_same v (at + n) x 0 (omega (arith, c.long)) ∙ ap (λ (m : ℕ). get_or source (from + m) 0) (sym e)
-      pick t b (no d) = get_or-set_other v (at + n) (at + t) x 0 (omega arith) ∙ c.is t (omega arith)
+      same : at + (53 + (i - (at + 53))) ≡ i
+      same = omega arith
 
-      far : (m : ℕ) → (m < at) ⊎ (at + (n + 1) ≤ m) → m ≢ at + n
-      far m (inl b) = omega arith
-      far m (inr b) = omega arith
-
-      less : (m : ℕ) → (m < at) ⊎ (at + (n + 1) ≤ m) → (m < at) ⊎ (at + n ≤ m)
-      less m (inl b) = inl b
-      less m (inr b) = inr (omega arith)
-
-pub copy-end : (source before v : List ℕ) (i p n : ℕ) → p ≢ 0 → 53 ≤ n → Copied source before (i * 53) ((p - 1) * 53) v n → PageLaid source i p before v
-copy-end source before v i p n z h c = record { laid = laid'; kept = λ q t b d. c.rest (q * 53 + t) (apart q t b d (dec_lt q (p - 1))) }
+-- ---- a page that is copied
+page-at : (source before : List ℕ) (i p : ℕ) → p ≢ 0 → p ≤ 32 → i * 53 + 53 ≤ length source → length before ≡ 1696
+    → PageLaid source i p before (put_mid ((p - 1) * 53) 53 before (piece source i))
+page-at source before i p z m s l = record { laid = laid'; kept = λ q t b d. kept' q t b d (dec_lt q (p - 1)) }
   where
-    laid' : (q t : ℕ) → t < 53 → p ≡ suc q → get_or v (q * 53 + t) 0 ≡ get_or source (i * 53 + t) 0
-    laid' q t b e = ap (λ (m : ℕ). get_or v (m * 53 + t) 0) at ∙ c.is t (omega arith)
-      where
-        at : q ≡ p - 1
-        at = omega arith
+    at : ℕ
+    at = (p - 1) * 53
 
-    apart : (q t : ℕ) → t < 53 → p ≢ suc q → Dec (q < p - 1) → (q * 53 + t < (p - 1) * 53) ⊎ ((p - 1) * 53 + n ≤ q * 53 + t)
-    apart q t b d (yes l) = inl (omega arith)
-    apart q t b d (no l) = inr (omega (arith, c.upto))
+    y : List ℕ
+    y = piece source i
+
+    long : length y ≡ 53
+    long = piece-length source i s
+
+    fits : at + 53 ≤ length before
+    fits = omega arith
+
+    laid' : (q t : ℕ) → t < 53 → p ≡ suc q → get_or (put_mid at 53 before y) (q * 53 + t) 0 ≡ get_or source (i * 53 + t) 0
+    laid' q t b e = ap (λ (n : ℕ). get_or (put_mid at 53 before y) n 0) place ∙ over-at before y at fits long t b ∙ piece-get source i t b
+      where
+        place : q * 53 + t ≡ at + t
+        place = omega arith
+
+    kept' : (q t : ℕ) → t < 53 → p ≢ suc q → Dec (q < p - 1) → get_or (put_mid at 53 before y) (q * 53 + t) 0 ≡ get_or before (q * 53 + t) 0
+    kept' q t b d (yes h) = over-below before y at fits long (q * 53 + t) (omega arith)
+    kept' q t b d (no h) = over-above before y at fits long (q * 53 + t) (omega arith)
+
+-- the same, in the numbers that the code works out
+pub page-copied : (source before : List ℕ) (i p n m : ℕ) (ys : List ℕ) → p ≢ 0 → p ≤ 32 → i * 53 + 53 ≤ length source → length before ≡ 1696
+    → n ≡ 53 → m ≡ 53 → ys ≡ take m (drop (i * 53) source) → PageLaid source i p before (put_mid ((p - 1) * 53) n before ys)
+page-copied source before i p n m ys z h s l en em e =
+    subst (PageLaid source i p before) (sym (ap₂ (λ (k : ℕ) (u : List ℕ). put_mid ((p - 1) * 53) k before u) en (e ∙ ap (λ (k : ℕ). take k (drop (i * 53) source)) em))) (page-at source before i p z h s l)
 
 -- p is 0
 pub none-laid : (source before : List ℕ) (i p : ℕ) → p ≡ 0 → PageLaid source i p before before

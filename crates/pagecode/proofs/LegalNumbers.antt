@@ -9,6 +9,7 @@ use native.Mathlib.Omega.{arith}
 use lib.Dec.{eqb, leb}
 use lib.ListN.{length, get_or}
 use borrow.Author.Tests.{leb-true, eqb-true, eq-eqb, not-true}
+use Rattle.std.specs.List.{list_all}
 use Rattle.pagecode.specs.Page.{legal}
 use Rattle.pagecode.specs.Encode.{are_pages}
 use Rattle.pagecode.specs.Solve.{all_legal, is_in, different}
@@ -39,6 +40,11 @@ legal-is k p h e = pick (or_cases (leb 1 p && leb p k) (leb 33 p && leb p 255) e
         let lo = leb-true 33 p (and_left (leb 33 p) (leb p 255) a) in
         let hi = leb-true p 255 (and_right (leb 33 p) (leb p 255) a) in
         record { low = omega arith; high = hi; gap = inr lo }
+
+pub legal-tests : (k : ℕ) (ps : List ℕ) → list_all (legal k) ps ≡ all_legal k ps
+unfolding all_legal
+legal-tests k [] = mathlib.Core.Path.refl
+legal-tests k (p ∷ ps) = ap (λ b. legal k p && b) (legal-tests k ps)
 
 pub legal-at : (k : ℕ) (ps : List ℕ) (i : ℕ) → i < length ps → all_legal k ps ≡ true → legal k (get_or ps i 0) ≡ true
 unfolding all_legal
@@ -73,10 +79,6 @@ pages-of ps h l d = record {
 }
 
 -- ---- what the test of a size tells
-pub some-pages : (k n : ℕ) → are_pages k n ≡ true → 1 ≤ k
-unfolding are_pages
-some-pages k n e = leb-true 1 k (and_left (leb 1 k) (leb k 32 && eqb n (k * 53)) e)
-
 pub few-pages : (k n : ℕ) → are_pages k n ≡ true → k ≤ 32
 unfolding are_pages
 few-pages k n e = leb-true k 32 (and_left (leb k 32) (eqb n (k * 53)) (and_right (leb 1 k) _ e))

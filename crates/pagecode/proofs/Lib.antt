@@ -1,7 +1,6 @@
 -- Entries of a table
 mod Everywhere
 -- The field
-mod Xor
 mod Linear
 mod Laws
 mod Tables
@@ -40,6 +39,7 @@ mod Reduced
 mod Reducing
 mod Solution
 mod SolvedPages
+mod Sought
 -- What others may use
 pub mod Settled
 pub mod Promises

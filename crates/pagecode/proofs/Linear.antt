@@ -2,14 +2,13 @@
 -- Shift-and-add goes digit by digit, and the exclusive or is a sum of each digit.
 use mathlib.Core.Path.{◌≡◌, refl, sym, ap, ap₂, ◌∙◌}
 use Prim.Native.Nat.{ℕ, zero, suc, ◌*◌, ◌/◌, ◌%◌, ◌^◌, ◌<◌, suc-le-suc}
-use native.Mathlib.Nat.{zero-lt-suc, zero-mul, one-mul, add-zero, pow-suc, div-add-mod'}
+use native.Mathlib.Nat.{zero-lt-suc, mod-lt, zero-mul, one-mul, add-zero, pow-suc, div-add-mod'}
 use native.Mathlib.Numerals.{add-one}
 use native.Mathlib.Omega.{arith}
-use lib.Bits.{bit_xor, differ, xor_lt, xor_self, xor_comm, xor_zero_r, xor_block, xor_shr, xor_mod, xor_shifted}
+use lib.Bits.{bit_xor, xor_lt, xor_self, xor_comm, xor_assoc, xor_zero_r, xor_block, xor_shr, xor_mod, xor_shifted}
 use lib.Arith.{lt-one}
 use lib.Pow.{shr_lt}
 use Rattle.pagecode.specs.Field.{◌⊕◌, ◌⊗◌, double, shift_add}
-use Rattle.pagecode.proofs.Xor.{xor_assoc, xor_half, xor-odd, two}
 
 pub ⊕-comm : (a b : ℕ) → a ⊕ b ≡ b ⊕ a
 unfolding ◌⊕◌
@@ -45,8 +44,11 @@ pub ruleset ring = (⊕-assoc, ⊕-comm, ⊕-left-comm, ⊕-self, ⊕-self-left,
 abbrev pub Additive : (ℕ → ℕ) → Type 0
 Additive f = (x y : ℕ) → f (x ⊕ y) ≡ f x ⊕ f y
 
+pub two : (x : ℕ) → x % 2 < 2
+two x = mod-lt x (zero-lt-suc 1)
+
 -- a bit times a number
-bit-l : (p q m : ℕ) → p < 2 → q < 2 → differ p q * m ≡ p * m ⊕ q * m
+bit-l : (p q m : ℕ) → p < 2 → q < 2 → (p ⊕ q) * m ≡ p * m ⊕ q * m
 bit-l zero q m h k = simp (zero-mul, zero-⊕)
 bit-l (suc zero) zero m h k = simp (zero-mul, one-mul, ⊕-zero)
 bit-l (suc zero) (suc zero) m h k = simp (zero-mul, one-mul, ⊕-self)
@@ -60,11 +62,11 @@ bit-r (suc (suc p)) x y h = absurd (omega arith)
 
 pub ⊕-odd : (a b m : ℕ) → (a ⊕ b) % 2 * m ≡ a % 2 * m ⊕ b % 2 * m
 unfolding ◌⊕◌
-⊕-odd a b m = ap (λ (x : ℕ). x * m) (xor-odd a b) ∙ bit-l (a % 2) (b % 2) m (two a) (two b)
+⊕-odd a b m = ap (λ (x : ℕ). x * m) (xor_mod a b 1) ∙ bit-l (a % 2) (b % 2) m (two a) (two b)
 
 pub ⊕-half : (a b : ℕ) → (a ⊕ b) / 2 ≡ a / 2 ⊕ b / 2
 unfolding ◌⊕◌
-⊕-half = xor_half
+⊕-half a b = xor_shr a b 1
 
 pub ⊕-twice : (a b : ℕ) → (a ⊕ b) * 2 ≡ a * 2 ⊕ b * 2
 unfolding ◌⊕◌

@@ -1,7 +1,7 @@
 -- Lines and their multiples. A line is a row of the square, its right sides and 0; its multiple by an octet is the sum of two, by the octet's low four bits and by its high four.
 -- The product is additive in its factor, and that every octet is such a sum antt computes.
 use mathlib.Core.Path.{◌≡◌, refl, sym, ap, ap₂, ◌∙◌}
-use mathlib.Core.List.{List, [], ◌∷◌, ◌++◌, append_assoc}
+use mathlib.Core.List.{List, [], ◌∷◌, ◌++◌}
 use Prim.Native.Nat.{ℕ, zero, suc, ◌+◌, ◌*◌, ◌/◌, ◌%◌, ◌≤◌, ◌<◌}
 use native.Mathlib.Decide.{ℕ_discrete}
 use native.Mathlib.Nat.{zero-lt-suc, mod-lt}
@@ -9,8 +9,9 @@ use native.Mathlib.Omega.{arith}
 use lib.Bits.{bit_xor}
 use lib.Dec.{eqb}
 use lib.ListN.{length, get_or, set, take, drop, replicate, length-set}
-use lib.Seq.{get_or-set_same, get_or-set_other, take_at, drop_at, take_all, drop-append-add, paste}
+use lib.Seq.{get_or-set_same, get_or-set_other, take_at, drop_at}
 use borrow.Author.Tests.{eqb-true}
+use borrow.Rule.Slice.PartMut.{put_mid}
 use denote.Array.{Array, each}
 use denote.Plain.{UInt}
 use denote.Shadow.{shadow}
@@ -23,24 +24,27 @@ use Rattle.pagecode.proofs.Everywhere.{below}
 use Rattle.pagecode.proofs.Laws.{⊗-low-r, zero-⊗, one-⊗}
 use Rattle.pagecode.proofs.Power.{double-is}
 use Rattle.pagecode.proofs.Polynomials.{plus-get, plus-even, scale-get, scale-length, scale-add, scale-scale, scale-append}
-use Rattle.pagecode.proofs.Fill.{Filled, fill-next, fill_done}
+use Rattle.pagecode.proofs.Fill.{Filled, fill-next, fill-old, fill_done}
 use Rattle.pagecode.proofs.Cells.{more_side}
 
 -- ---- the loops that fill a sum and a multiple in
 module _ (a b : List ℕ) (even : length a ≡ length b) where
-  pub sum-next : (v : List ℕ) (j m : ℕ) → j < length a → m ≡ get_or b j 0 → Filled a (plus a b) v j → Filled a (plus a b) (set v j (get_or a j 0 ⊕ m)) (j + 1)
-  sum-next v j m h e g =
-      fill-next 0 a (plus a b) v j (get_or a j 0 ⊕ m) g (ap (λ (x : ℕ). get_or a j 0 ⊕ x) e ∙ sym (plus-get a b j)) h (omega (arith, plus-even a b even))
+  pub sum-next : (v : List ℕ) (j : ℕ) → j < length a → Filled a (plus a b) v j → Filled a (plus a b) (set v j (get_or v j 0 ⊕ get_or b j 0)) (j + 1)
+  sum-next v j h g =
+      let old = fill-old 0 a (plus a b) v j g (omega (arith, plus-even a b even)) in
+      fill-next 0 a (plus a b) v j _ g (ap (λ (x : ℕ). x ⊕ get_or b j 0) old ∙ sym (plus-get a b j)) h (omega (arith, plus-even a b even))
 
   pub sum_done : (v : List ℕ) (j : ℕ) → length a ≤ j → Filled a (plus a b) v j → v ≡ plus a b
   sum_done v j h g = fill_done 0 a (plus a b) v j g h (omega (arith, plus-even a b even))
 
-module _ (f : ℕ) (d a : List ℕ) (even : length d ≡ length a) where
-  pub scale-next : (v : List ℕ) (j m : ℕ) → j < length a → m ≡ f ⊗ get_or a j 0 → Filled d (scale f a) v j → Filled d (scale f a) (set v j m) (j + 1)
-  scale-next v j m h e g = fill-next 0 d (scale f a) v j m g (e ∙ sym (scale-get f a j)) (omega arith) (omega (arith, scale-length f a))
+module _ (f : ℕ) (a : List ℕ) where
+  pub scale-next : (v : List ℕ) (j m : ℕ) → j < length a → m ≡ f ⊗ get_or v j 0 → Filled a (scale f a) v j → Filled a (scale f a) (set v j m) (j + 1)
+  scale-next v j m h e g =
+      let old = fill-old 0 a (scale f a) v j g (omega (arith, scale-length f a)) in
+      fill-next 0 a (scale f a) v j m g (e ∙ ap (λ (x : ℕ). f ⊗ x) old ∙ sym (scale-get f a j)) h (omega (arith, scale-length f a))
 
-  pub scale-done : (v : List ℕ) (j : ℕ) → length a ≤ j → Filled d (scale f a) v j → v ≡ scale f a
-  scale-done v j h g = fill_done 0 d (scale f a) v j g (omega arith) (omega (arith, scale-length f a))
+  pub scale-done : (v : List ℕ) (j : ℕ) → length a ≤ j → Filled a (scale f a) v j → v ≡ scale f a
+  scale-done v j h g = fill_done 0 a (scale f a) v j g h (omega (arith, scale-length f a))
 
 -- ---- small multiples
 double-low : (x : ℕ) → double (x % 256) ≡ double x
@@ -129,13 +133,10 @@ module _ (l a b : List ℕ) (low high : List (List ℕ)) (line : a ≡ l) (some 
       ∙ sym (scale-add (f % 16) ((f / 16) ⊗ 16) a) ∙ ap₂ scale (nibbles f h) line
 
 -- ---- the parts of a line
-pub lined : (x y d v : List ℕ) (j : ℕ) → length x ≡ 32 → length y ≡ 53 → d ≡ x ++ replicate 64 0 → j ≡ 53 → v ≡ paste d 32 y j → v ≡ x ++ (y ++ replicate 11 0)
-lined x y d v j long h e g i =
-    i ∙ ap₂ (λ (u : List ℕ) (n : ℕ). paste u 32 y n) e g
-    ∙ ap₂ ◌++◌ (ap₂ ◌++◌ (take_at x (replicate 64 0) 32 long) (take_all 53 y (omega arith))) rest ∙ append_assoc x y (replicate 11 0)
-  where
-    rest : drop (32 + 53) (x ++ replicate 64 0) ≡ replicate 11 0
-    rest = ap (λ (n : ℕ). drop (n + 53) (x ++ replicate 64 0)) (sym long) ∙ drop-append-add x (replicate 64 0) 53
+pub lined : (x y z : List ℕ) → length x ≡ 32 → z ≡ x ++ replicate 64 0 → put_mid 32 53 z y ≡ x ++ (y ++ replicate 11 0)
+lined x y z long e =
+    ap (λ (u : List ℕ). put_mid 32 53 u y) e
+    ∙ ap₂ ◌++◌ (take_at x (replicate 64 0) 32 long) (ap (λ (u : List ℕ). y ++ drop 53 u) (drop_at x (replicate 64 0) 32 long))
 
 -- m is f times the line of the row x and the right sides y: what a row and right sides take by it
 module _ (x y : List ℕ) (f : ℕ) (m : List ℕ) (long : length x ≡ 32) (wide : length y ≡ 53) (is : m ≡ scale f (x ++ (y ++ replicate 11 0))) where

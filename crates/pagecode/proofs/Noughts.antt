@@ -9,8 +9,8 @@ use native.Mathlib.Decide.{ℕ_discrete, dec_lt}
 use native.Mathlib.Numerals.{add-one}
 use native.Mathlib.Omega.{arith}
 use lib.Dec.{eqb}
-use lib.ListN.{length, get_or, set, replicate, get_or-replicate, length-set}
-use lib.Seq.{get_or-set_same, get_or-set_other}
+use lib.ListN.{length, get_or, set, take, replicate, get_or-replicate, length-set}
+use lib.Seq.{get_or-set_same, get_or-set_other, get_or-take}
 use borrow.Author.Tests.{eq-eqb, ne_eqb}
 use Rattle.pagecode.specs.Field.{◌⊕◌}
 use Rattle.pagecode.specs.System.{sum}
@@ -227,6 +227,24 @@ module _ (l at : List ℕ) (n r : ℕ) (s : AreNoughts l n at r) where
       let f = listed c h in
       let same : q ≡ f.0 = omega (arith, f.4, e) in
       d (ap (λ (m : ℕ). get_or l m 0) same ∙ f.2)
+
+-- ---- the fronts of lists that hold as much
+pub noughts-front : (l : List ℕ) (m n : ℕ) → n ≤ m → noughts (take m l) n ≡ noughts l n
+unfolding noughts
+noughts-front l m zero h = refl
+noughts-front l m (suc n) h = ap₂ (λ (x y : ℕ). x + nought y) (noughts-front l m n (omega arith)) (get_or-take m l n 0 (omega arith))
+
+pub marked-front : (k : ℕ) (plain marks : List ℕ) → Spread k k plain → Marked k plain marks → Marked k plain (take k marks)
+marked-front k plain marks spread marked = record {
+  is = λ i q h e d. marked.is i q h e (sym (get_or-take k marks q 0 (omega (arith, spread.most i h))) ∙ d);
+  count = noughts-front marks k k (omega arith) ∙ marked.count;
+}
+
+pub list-front : (l at : List ℕ) (n r : ℕ) → AreNoughts l n at r → AreNoughts l n (take r at) r
+list-front l at n r s = record { all = s.all; each = λ j h z. get_or-take r at (noughts l j) 0 (omega (arith, noughts-less l j n h z, s.all)) ∙ s.each j h z }
+
+pub others-front : (l at : List ℕ) (n m : ℕ) → noughts l n + m ≡ n → AreOthers l n at → AreOthers l n (take m at)
+others-front l at n m e s j h d = get_or-take m at (j - noughts l j) 0 (omega (arith, others-less l j n h d)) ∙ s j h d
 
 -- ---- a sum, split in the noughts and the others
 pub split : (l : List ℕ) (f g h : ℕ → ℕ) (n : ℕ) → ((j : ℕ) → j < n → get_or l j 0 ≡ 0 → g (noughts l j) ≡ f j) → ((j : ℕ) → j < n → get_or l j 0 ≢ 0 → h (j - noughts l j) ≡ f j)

@@ -7,7 +7,7 @@ use native.Mathlib.Nat.{mod-lt, mod-eq_of_lt, zero-lt-suc}
 use native.Mathlib.Omega.{arith}
 use lib.ListN.{length, get_or, drop, get_or-map}
 use borrow.Author.Tests.{ne_eqb}
-use Rattle.pagecode.specs.declared.Answer.TheVariants.{Good}
+use Rattle.std.specs.Prelude.{Ok}
 use Rattle.pagecode.specs.Field.{Octets}
 use Rattle.pagecode.specs.Page.{column, page_octet, content, header_bits, header_octets, first_bits, header_of, is_dummy, encoded_page}
 use Rattle.pagecode.specs.Encode.{are_pages}
@@ -117,7 +117,7 @@ solution-only numbers contents m s h =
     solution.one-message numbers contents few (pages-of numbers few s.legal s.apart) (solution_of numbers contents) m (solution-has numbers contents s) h
 
 -- what `solve` leaves in the buffer is that message, and what stood behind it
-pub solved-buffer : (contents numbers before after : List ℕ) → Solvable numbers contents → Solved contents numbers before Good after
+pub solved-buffer : (contents numbers before after : List ℕ) → Solvable numbers contents → Solved contents numbers before (Ok tt) after
     → after ≡ solution_of numbers contents ++ drop (length contents) before
 solved-buffer contents numbers before after s x =
     let m = x.buffer.0 in

@@ -9,14 +9,13 @@ use native.Mathlib.Decide.{ℕ_discrete}
 use native.Mathlib.Omega.{arith}
 use lib.Dec.{eqb}
 use lib.ListN.{length, drop}
+use Rattle.std.specs.Prelude.{Ok, Err}
 use Rattle.refusal.proofs.OneCase.{one-case, no-nought}
 use Rattle.refusal.specs.declared.Refusal.{Refusal}
 use Rattle.refusal.specs.declared.Refusal.TheVariants.{Length, Out, PageNumber, Repeat}
-use Rattle.pagecode.specs.declared.Answer.{Answer}
-use Rattle.pagecode.specs.declared.Answer.TheVariants.{Good, Refused}
 use Rattle.pagecode.specs.Field.{◌⊗◌, Logarithm, Inverse}
 use Rattle.pagecode.specs.Page.{encoded_page}
-use Rattle.pagecode.specs.Answer.{answer_number, check, when_good}
+use Rattle.pagecode.specs.Answer.{Answer, answer_number, check, when_good}
 use Rattle.pagecode.specs.Encode.{are_pages, Encoded}
 use Rattle.pagecode.specs.Solve.{all_legal, different, solve_answer, SolvedBuffer, Solved}
 use Rattle.pagecode.proofs.Laws.{⊗-assoc, ⊗-comm, ⊗-one, one-⊗}
@@ -46,26 +45,26 @@ one-encoding m status number page before r s a b x y =
     (e, x.buffer ∙ ap (λ (t : Answer). when_good t (encoded_page m status number page) before) e ∙ sym y.buffer)
 
 -- ---- what a good answer of `solve` tells: its tests held
-check-good : (b : Bool) (f : Refusal) (next : Answer) → check b f next ≡ Good → (b ≡ true) × (next ≡ Good)
+check-good : (b : Bool) (f : Refusal) (next : Answer) → check b f next ≡ Ok tt → (b ≡ true) × (next ≡ Ok tt)
 check-good true f next e = (refl, e)
 check-good false f next e = let z : ◌≡◌ {A = ℕ} 0 1 = cc in absurd (omega arith)
 
-good-pages : (contents numbers : List ℕ) (room : ℕ) → solve_answer contents numbers room ≡ Good → (length numbers ≤ 32) × Pages (length numbers) numbers
+good-pages : (contents numbers : List ℕ) (room : ℕ) → solve_answer contents numbers room ≡ Ok tt → (length numbers ≤ 32) × Pages (length numbers) numbers
 unfolding solve_answer
 good-pages contents numbers room e =
     let pages = check-good (are_pages (length numbers) (length contents)) Length _ e in
     let space = check-good (eqb room 1696) Out _ pages.1 in
     let legal = check-good (all_legal (length numbers) numbers) PageNumber _ space.1 in
-    let apart = check-good (different numbers) Repeat Good legal.1 in
+    let apart = check-good (different numbers) Repeat (Ok tt) legal.1 in
     let few : length numbers ≤ 32 = few-pages (length numbers) (length contents) pages.0 in
     (few, pages-of numbers few legal.0 apart.0)
 
 one-buffer : (contents numbers before : List ℕ) (r : Answer) (a b : List ℕ) → r ≡ solve_answer contents numbers (length before)
     → SolvedBuffer r contents numbers before a → SolvedBuffer r contents numbers before b → a ≡ b
-one-buffer contents numbers before Good a b e (m, h, x) (n, i, y) =
+one-buffer contents numbers before (Ok _) a b e (m, h, x) (n, i, y) =
     let g = good-pages contents numbers (length before) (sym e) in
     x ∙ ap (λ (l : List ℕ). l ++ drop (length l) before) (one-message numbers contents g.0 g.1 m n h i) ∙ sym y
-one-buffer contents numbers before (Refused f) a b e x y = x ∙ sym y
+one-buffer contents numbers before (Err f) a b e x y = x ∙ sym y
 
 pub one_solution : (contents numbers before : List ℕ) (r s : Answer) (a b : List ℕ) → Solved contents numbers before r a → Solved contents numbers before s b → (r ≡ s) × (a ≡ b)
 one_solution contents numbers before r s a b x y =
@@ -74,7 +73,7 @@ one_solution contents numbers before r s a b x y =
 
 -- an answer is known by its number
 pub one_answer : (a b : Answer) → answer_number a ≡ answer_number b → a ≡ b
-one_answer Good Good e = refl
-one_answer Good (Refused g) e = absurd (no-nought g (sym e))
-one_answer (Refused f) Good e = absurd (no-nought f e)
-one_answer (Refused f) (Refused g) e = ap Refused (one-case f g e)
+one_answer (Ok _) (Ok _) e = refl
+one_answer (Ok _) (Err g) e = absurd (no-nought g (sym e))
+one_answer (Err f) (Ok _) e = absurd (no-nought f e)
+one_answer (Err f) (Err g) e = ap Err (one-case f g e)

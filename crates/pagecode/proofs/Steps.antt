@@ -20,7 +20,7 @@ use Rattle.pagecode.proofs.Laws.{⊗-zero, zero-⊗, one-⊗}
 use Rattle.pagecode.proofs.Polynomials.{plus-octets, scale-octets}
 use Rattle.pagecode.proofs.Kernel.{sel, sel_yes, sel_no, clear, advance}
 use Rattle.pagecode.proofs.Pieces.{piece}
-use Rattle.pagecode.proofs.Cells.{cell-low, cell-octets, Added, more_side, more_row, added, added-length, added-drop}
+use Rattle.pagecode.proofs.Cells.{cell-low, cell-octets, Added, more_side, more_row, side-octets, added, added-length, added-drop}
 
 -- ---- a row with an entry is looked for: rows q to r - 1 have none
 pub record Seeking (k q r : ℕ) (F : ℕ → ℕ → ℕ) : Type 0 where
@@ -83,6 +83,7 @@ pub record SweepLoop (k q : ℕ) (n₀ : List (List ℕ)) (s₀ : List ℕ) (n :
   pub upto : r ≤ k
   pub rows : length n ≡ 32
   pub long : length s ≡ 1696
+  pub octets : Octets s
   pub rest : drop (k * 53) s ≡ drop (k * 53) s₀
 
 module _ (k q : ℕ) (n₀ : List (List ℕ)) (s₀ : List ℕ) (qk : q < k) (k32 : k ≤ 32) (long : length s₀ ≡ 1696) where
@@ -94,6 +95,7 @@ module _ (k q : ℕ) (n₀ : List (List ℕ)) (s₀ : List ℕ) (qk : q < k) (k3
     upto = omega arith;
     rows = length-set n r (plus (get_or n r []) (scale f (get_or n₀ q []))) ∙ i.rows;
     long = added-length n₀ n s₀ s q r f (omega (arith, i.rows)) (omega arith) (omega (arith, i.long)) ∙ i.long;
+    octets = side-octets s r f (piece s₀ q) i.octets;
     rest = added-drop n₀ n s₀ s q r f (omega (arith, i.rows)) (omega arith) (omega (arith, i.long)) k l ∙ i.rest;
   })
     where

@@ -1,10 +1,8 @@
 -- Encoding a page: 01, The page code, last paragraph.
 -- Leans on the page.
-use Rattle.std.specs.Prelude.{Bool, ◌&&◌, List, ◌≡◌, ℕ, ◌*◌, ◌/◌, eqb, leb, ltb, length}
+use Rattle.std.specs.Prelude.{Bool, ◌&&◌, List, ◌≡◌, ℕ, ◌*◌, ◌/◌, eqb, leb, ltb, length, Ok}
 use Rattle.refusal.specs.declared.Refusal.TheVariants.{Length, Out, Status, Id, PageNumber}
-use Rattle.pagecode.specs.declared.Answer.{Answer}
-use Rattle.pagecode.specs.declared.Answer.TheVariants.{Good}
-use Rattle.pagecode.specs.Answer.{check, when_good}
+use Rattle.pagecode.specs.Answer.{Answer, check, when_good}
 use Rattle.pagecode.specs.Page.{legal, encoded_page}
 
 -- n octets are k pages: "53k octets (k 1 to 32)"
@@ -20,7 +18,7 @@ encode_answer m status number page room =
     (check (ltb status 2) Status
     (check (ltb number 32) Id
     (check (legal (length m / 53) page) PageNumber
-    Good))))
+    (Ok tt)))))
 
 -- the contract of `encode_page`, whose buffer holds `before`, and then `after`
 pub record Encoded (m : List ℕ) (status number page : ℕ) (before : List ℕ) (answer : Answer) (after : List ℕ) : Type 0 where

@@ -1,10 +1,8 @@
 -- Solving pages, and the unique solution: 01, The page code, third paragraph.
 -- Leans on the page.
-use Rattle.std.specs.Prelude.{Bool, true, false, not, ◌&&◌, ◌||◌, List, [], ◌∷◌, ◌++◌, ◌≡◌, ℕ, ◌*◌, eqb, length, drop}
+use Rattle.std.specs.Prelude.{Bool, true, false, not, ◌&&◌, ◌||◌, List, [], ◌∷◌, ◌++◌, ◌≡◌, ℕ, ◌*◌, eqb, length, drop, Ok, Err}
 use Rattle.refusal.specs.declared.Refusal.TheVariants.{Length, Out, PageNumber, Repeat}
-use Rattle.pagecode.specs.declared.Answer.{Answer}
-use Rattle.pagecode.specs.declared.Answer.TheVariants.{Good, Refused}
-use Rattle.pagecode.specs.Answer.{check}
+use Rattle.pagecode.specs.Answer.{Answer, check}
 use Rattle.pagecode.specs.Field.{Octets}
 use Rattle.pagecode.specs.Page.{legal, content}
 use Rattle.pagecode.specs.Encode.{are_pages}
@@ -51,12 +49,12 @@ solve_answer contents numbers room =
     (check (eqb room 1696) Out
     (check (all_legal (length numbers) numbers) PageNumber
     (check (different numbers) Repeat
-    Good)))
+    (Ok tt))))
 
 -- the buffer then holds the message that has these pages; "octets past 53k are never touched"
 abbrev pub SolvedBuffer : Answer → List ℕ → List ℕ → List ℕ → List ℕ → Type 0
-SolvedBuffer Good contents numbers before after = (m : List ℕ) × Has numbers contents m × (after ≡ m ++ drop (length m) before)
-SolvedBuffer (Refused r) contents numbers before after = after ≡ before
+SolvedBuffer (Ok _) contents numbers before after = (m : List ℕ) × Has numbers contents m × (after ≡ m ++ drop (length m) before)
+SolvedBuffer (Err r) contents numbers before after = after ≡ before
 
 -- the contract of `solve`, whose buffer holds `before`, and then `after`
 pub record Solved (contents numbers before : List ℕ) (answer : Answer) (after : List ℕ) : Type 0 where

@@ -1,8 +1,8 @@
 -- The equations that solving works on: ICD 6.4, Eq. 16 and 17. Only private contracts cite this file: what `solve` promises is in Solve.
 -- The right sides are columns behind the square's: in this field A·x = b is A·x + b = 0. Leans on the field.
-use Rattle.std.specs.Prelude.{cond, List, [], ◌≢◌, ◌≡◌, ℕ, zero, suc, ◌+◌, ◌-◌, ◌*◌, ◌≤◌, ◌<◌, ltb, get_or}
+use Rattle.std.specs.Prelude.{cond, List, [], ◌≢◌, ◌≡◌, ℕ, zero, suc, ◌+◌, ◌-◌, ◌*◌, ◌/◌, ◌%◌, ◌≤◌, ◌<◌, ltb, get_or}
 use Rattle.pagecode.specs.Field.{◌⊕◌, ◌⊗◌}
-use Rattle.pagecode.specs.Code.{scale}
+use Rattle.pagecode.specs.Code.{plus, scale}
 
 -- row r, column c: 32 columns of the square, and behind them 53 of right sides
 unfoldable pub cell : List (List ℕ) → List ℕ → ℕ → ℕ → ℕ
@@ -51,6 +51,10 @@ pub record Swept (k q : ℕ) (F G : ℕ → ℕ → ℕ) : Type 0 where
 -- a table has the multiples of l by 0 to 15
 abbrev pub Multiples : List ℕ → List (List ℕ) → Type 0
 Multiples l table = (v : ℕ) → v < 16 → get_or table v [] ≡ scale v l
+
+-- two tables hold the multiples of l by every octet: one by its low four bits, one by its high four
+abbrev pub Looked : List ℕ → List (List ℕ) → List (List ℕ) → Type 0
+Looked l low high = (f : ℕ) → f < 256 → plus (get_or low (f % 16) []) (get_or high (f / 16) []) ≡ scale f l
 
 -- nothing but 0 is sent to 0: "The resulting k x k matrix D can be inverted"
 pub record Regular (k : ℕ) (square : List (List ℕ)) : Type 0 where

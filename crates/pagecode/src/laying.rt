@@ -2,31 +2,27 @@
 ghost use Rattle.std.specs.Prelude.{◌+◌, ◌*◌, ◌≤◌, ◌<◌, ◌≡◌, length};
 ghost use Rattle.pagecode.specs.Reduction.{Spread, PageLaid, PagesLaid};
 
-use crate::sizes::{CONTENT_OCTETS, Row};
+use crate::sizes::{CONTENT_OCTETS, Message};
 
 // Lays page i of the source, from 0 on, as page p, from 1 on; none where p is 0.
-pub fn lay_page(source: &[u8], i: usize, out: &mut [u8], p: usize)
-    requires { (i < 32) × (p ≤ 32) × (i * 53 + 53 ≤ length source.now) × (length out.old ≡ 1696) }
+pub fn lay_page(source: &[u8], i: usize, out: &mut Message, p: usize)
+    requires { (i < 32) × (p ≤ 32) × (i * 53 + 53 ≤ length source.now) }
     ensures { PageLaid source.now i p out.old out.new }
 {
     if p == 0 {
         return;
     }
-    let mut j: usize = 0;
-    while j < CONTENT_OCTETS {
-        out[(p - 1) * CONTENT_OCTETS + j] = source[i * CONTENT_OCTETS + j];
-        j += 1;
-    }
+    let at = (p - 1) * CONTENT_OCTETS;
+    let from = i * CONTENT_OCTETS;
+    out[at..at + CONTENT_OCTETS].copy_from_slice(&source[from..from + CONTENT_OCTETS]);
 }
 
-// Lays the first n pages of the source, each as the page that `to` says.
-pub fn lay_pages(source: &[u8], to: Row, n: usize, out: &mut [u8])
-    requires { (n ≤ 32) × (n * 53 ≤ length source.now) × (length out.old ≡ 1696) × Spread n 32 to }
-    ensures { PagesLaid n source.now to out.old out.new }
+// Lays as many pages of the source as `to` has numbers, each as the page that `to` says.
+pub fn lay_pages(source: &[u8], to: &[u8], out: &mut Message)
+    requires { (length to.now ≤ 32) × (length to.now * 53 ≤ length source.now) × Spread (length to.now) 32 to.now }
+    ensures { PagesLaid (length to.now) source.now to.now out.old out.new }
 {
-    let mut i: usize = 0;
-    while i < n {
-        lay_page(source, i, out, to[i] as usize);
-        i += 1;
+    for (i, p) in to.iter().enumerate() {
+        lay_page(source, i, out, usize::from(*p));
     }
 }

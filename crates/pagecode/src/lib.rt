@@ -21,19 +21,12 @@ pub use numbers::is_legal;
 use refusal::Refusal;
 pub use solving::solve;
 
-// What a call answers: that it is done, or the refusal.
-#[derive(Clone, Copy)]
-pub enum Answer {
-    Good,
-    Refused(Refusal),
-}
-
 // The number that document 01 gives an answer: that of its refusal, or 0.
-pub fn answer_number(answer: Answer) -> u64
+pub fn answer_number(answer: Result<(), Refusal>) -> u64
     ensures { result ≡ answer_number answer }
 {
     match answer {
-        Answer::Good => 0,
-        Answer::Refused(r) => refusal::number(r),
+        Ok(()) => 0,
+        Err(r) => refusal::number(r),
     }
 }

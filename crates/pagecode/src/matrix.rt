@@ -1,15 +1,14 @@
 // The generator matrix of the code (ICD 6.2.3), row by row. Entry j of the row of page p, p over 32, is
 //     v_j g_(p-32) (y + x_31) / (y + x_j),   y = α^(255-p),   x_j = α^(254-j),
-// g being the generator's coefficients, the highest power first, and v the weights (Formula.raised-formula).
+// g being the generator's coefficients, the highest power first, and v the weights (Formula.raised_formula).
 ghost use Rattle.std.specs.Prelude.{◌≡◌, ◌≤◌, ◌<◌};
 ghost use Rattle.pagecode.specs.Matrix.{matrix_row, AreInverses};
 
 mod generator;
 mod weights;
 
-use crate::field::inverses::INVERSES;
 use crate::field::powers::POWERS;
-use crate::field::{power, product, sum};
+use crate::field::{inverse, power, product, sum};
 use crate::sizes::{MOST_PAGES, Row};
 use generator::GENERATOR;
 use weights::WEIGHTS;
@@ -28,14 +27,9 @@ const LAST_NODE: u8 = 9;
 fn invert_sums(y: u8) -> Row
     ensures { AreInverses y result }
 {
-    let powers = POWERS;
-    let inverses = INVERSES;
     let mut row = [0u8; MOST_PAGES];
-    let mut j: usize = 0;
-    while j < MOST_PAGES {
-        let s = sum(y, powers[FIRST_POWER - j]);
-        row[j] = inverses[s as usize];
-        j += 1;
+    for (j, x) in row.iter_mut().enumerate() {
+        *x = inverse(sum(y, POWERS[FIRST_POWER - j]));
     }
     row
 }
@@ -45,15 +39,12 @@ fn parity_row(p: usize) -> Row
     requires { (33 ≤ p) × (p ≤ 255) }
     ensures { result ≡ matrix_row p }
 {
-    let weights = WEIGHTS;
     let y = power((LAST_PAGE - p) as u64);
     let f = product(GENERATOR[p - FIRST_PARITY_PAGE], sum(y, LAST_NODE));
     let inverses = invert_sums(y);
     let mut row = [0u8; MOST_PAGES];
-    let mut j: usize = 0;
-    while j < MOST_PAGES {
-        row[j] = product(product(inverses[j], weights[j]), f);
-        j += 1;
+    for (j, x) in row.iter_mut().enumerate() {
+        *x = product(product(inverses[j], WEIGHTS[j]), f);
     }
     row
 }

@@ -1,5 +1,5 @@
 // Which plain pages, numbers 1 to k, are received, and which are missing.
-ghost use Rattle.std.specs.Prelude.{◌-◌, ◌≤◌, cond, ◌≡◌, eqb, length, set};
+ghost use Rattle.std.specs.Prelude.{◌+◌, ◌-◌, ◌≤◌, cond, ◌≡◌, eqb, length, set, take};
 ghost use Rattle.pagecode.specs.Reduction.{plain_number, ArePlain, Spread, nought, Marked, AreNoughts, AreOthers};
 
 use crate::sizes::{MOST_PAGES, Row};
@@ -7,15 +7,35 @@ use crate::sizes::{MOST_PAGES, Row};
 // The last number that a plain page can have.
 const LAST_PLAIN: u64 = 32;
 
-// Places of a row, counted from 1: those of the noughts, how many these are, and those of the others.
+// Places of a list, counted from 1: those of the noughts, and those of the others. Rows, and how many entries of each count, since the library
+// keeps no heap; they are read as slices.
 #[derive(Clone, Copy)]
 pub struct Places {
-    pub noughts: Row,
-    pub count: usize,
-    pub others: Row,
+    noughts: Row,
+    count: usize,
+    others: Row,
+    rest: usize,
 }
 
-// p where it is the number of a plain page, else 0.
+impl Places {
+    // The places of the noughts.
+    pub fn noughts(&self) -> &[u8]
+        requires { self.now.count ≤ 32 }
+        ensures { (result.now ≡ take self.now.count self.now.noughts) × (length result.now ≡ self.now.count) }
+    {
+        &self.noughts[..self.count]
+    }
+
+    // The places of the others.
+    pub fn others(&self) -> &[u8]
+        requires { self.now.rest ≤ 32 }
+        ensures { (result.now ≡ take self.now.rest self.now.others) × (length result.now ≡ self.now.rest) }
+    {
+        &self.others[..self.rest]
+    }
+}
+
+// p where it is the number of a plain page, else 0. No `Option`: the numbers stand in a row of octets, whose noughts are then looked for.
 fn plain_number(p: u64) -> u8
     ensures { result ≡ plain_number p }
 {
@@ -28,10 +48,8 @@ pub fn plain_numbers(numbers: &[u64]) -> Row
     ensures { ArePlain numbers.now result }
 {
     let mut plain = [0u8; MOST_PAGES];
-    let mut i: usize = 0;
-    while i < numbers.len() {
-        plain[i] = plain_number(numbers[i]);
-        i += 1;
+    for (i, p) in numbers.iter().enumerate() {
+        plain[i] = plain_number(*p);
     }
     plain
 }
@@ -45,50 +63,49 @@ fn mark_column(marks: Row, p: u8) -> Row
     if p == 0 {
         return m;
     }
-    m[p as usize - 1] = 1;
+    m[usize::from(p) - 1] = 1;
     m
 }
 
 // Marks the columns of the plain pages.
-pub fn mark_columns(plain: Row, k: usize) -> Row
-    requires { (k ≤ 32) × Spread k k plain }
-    ensures { Marked k plain result }
+pub fn mark_columns(plain: &[u8]) -> Row
+    requires { (length plain.now ≤ 32) × Spread (length plain.now) (length plain.now) plain.now }
+    ensures { Marked (length plain.now) plain.now result }
 {
     let mut marks = [0u8; MOST_PAGES];
-    let mut i: usize = 0;
-    while i < k {
-        let next = mark_column(marks, plain[i]);
+    for p in plain {
+        let next = mark_column(marks, *p);
         marks = next;
-        i += 1;
     }
     marks
 }
 
 // 1 of 0, else 0.
+#[tactic(auto, unfolding(crate::specs::Reduction::nought))]
 fn nought(x: u8) -> usize
     ensures { result ≡ nought x }
 {
-    if x == 0 { 1 } else { 0 }
+    usize::from(x == 0)
 }
 
-// The places of the noughts among the first n, and those of the others. Each place is written in both lists, and stays where the next is written behind it.
-pub fn list_places(row: Row, n: usize) -> Places
-    requires { n ≤ 32 }
-    ensures { AreNoughts row n result.noughts result.count × AreOthers row n result.others }
+// The places of a list's noughts, and those of the others. Each place is written in both lists, and stays where the next is written behind it.
+pub fn list_places(list: &[u8]) -> Places
+    requires { length list.now ≤ 32 }
+    ensures { AreNoughts list.now (length list.now) result.noughts result.count × AreOthers list.now (length list.now) result.others
+        × (result.count + result.rest ≡ length list.now) }
 {
     let mut noughts = [0u8; MOST_PAGES];
     let mut others = [0u8; MOST_PAGES];
     let mut count: usize = 0;
-    let mut j: usize = 0;
-    while j < n {
+    for (j, x) in list.iter().enumerate() {
         noughts[count] = (j + 1) as u8;
         others[j - count] = (j + 1) as u8;
-        count += nought(row[j]);
-        j += 1;
+        count += nought(*x);
     }
     Places {
-        noughts: noughts,
-        count: count,
-        others: others,
+        noughts,
+        count,
+        others,
+        rest: list.len() - count,
     }
 }

@@ -12,6 +12,9 @@ pub const MOST_PAGES: usize = 32;
 // The longest message, which is the buffer of every solving call.
 pub const MESSAGE_OCTETS: usize = 1696;
 
+// The octets of the longest message, or as many rows of right sides.
+pub type Message = [u8; MESSAGE_OCTETS];
+
 // A page's content; a row of right sides.
 pub type Content = [u8; CONTENT_OCTETS];
 

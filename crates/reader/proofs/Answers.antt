@@ -19,13 +19,10 @@ use Rattle.mt1.specs.Message.{System, Message}
 use Rattle.mt1.specs.Mt1.{Lent, message}
 use Rattle.mt1.specs.Records.{records}
 use Rattle.mt1.proofs.Inverted.{records-used}
-use Rattle.reader.specs.declared.reading.ReadAnswer.{ReadAnswer}
-use Rattle.reader.specs.declared.reading.ReadAnswer.TheVariants as answer
+use Rattle.std.specs.Prelude.{Result, Ok, Err}
 use Rattle.reader.specs.declared.plan.Plan.{Plan}
-use Rattle.reader.specs.declared.plan.PlanRead.{PlanRead}
-use Rattle.reader.specs.declared.plan.PlanRead.TheVariants as plan-read
 use Rattle.reader.specs.Reader.{Call, reading_if, reading, reading_octets, Reads}
-use Rattle.reader.specs.Steps.{source, Planned, plan_refusal, MessageRead}
+use Rattle.reader.specs.Steps.{source, Planned}
 
 pub not-pages : (n : ℕ) → (53 ≤ n → n ≤ 1696 → n % 53 ≡ 0 → ⊥) → are_pages (n / 53) n ≡ false
 unfolding are_pages
@@ -54,34 +51,31 @@ same-reading : (c : Call) → 53 ≤ length c.octets → length c.octets ≤ 169
 unfolding reading reading_octets
 same-reading c a b e = let n = length c.octets in ap (λ (good : Bool). reading_if good c) (pages n a b e ∙ sym (between n (omega (arith, a)) (omega (arith, b))))
 
-plan-answers : {plan : Plan} {r : RefusalAt} → plan-read.Got plan ≡ plan-read.Refused r → ⊥
-plan-answers e = let z : ◌≡◌ {A = ℕ} 0 1 = cc in omega arith
-
 -- whose octets the mask is in
 pub from-source : {lent : Lent} {octets : List ℕ} {m : Message} {ss : List System} {plan : Plan} {f g : Bool} → f ≡ g
     → Planned lent octets (source f octets lent.octets) m ss plan → Planned lent octets (source g octets lent.octets) m ss plan
 from-source {lent} {octets} {m} {ss} {plan} e t = subst (λ (b : Bool). Planned lent octets (source b octets lent.octets) m ss plan) e t
 
-refuses : (how : Call → Outcome Message) (c : Call) (before : List ℕ) {r : RefusalAt} → how c ≡ bad r → Reads how c before (answer.Refused r) before
+refuses : (how : Call → Outcome Message) (c : Call) (before : List ℕ) {r : RefusalAt} → how c ≡ bad r → Reads how c before (Err r) before
 refuses how c before e = record { answered = rw e; buffer = rw e }
 
 module _ (c : Call) (before : List ℕ) where
-  pub bad-pages : {r : RefusalAt} → are_pages (length c.octets / 53) (length c.octets) ≡ false → r ≡ refuse refusal.Length 0 → Reads reading c before (answer.Refused r) before
+  pub bad-pages : {r : RefusalAt} → are_pages (length c.octets / 53) (length c.octets) ≡ false → r ≡ refuse refusal.Length 0 → Reads reading c before (Err r) before
   unfolding reading
   bad-pages p e = refuses reading c before (rw (p, e))
 
-  pub bad-length : {r : RefusalAt} → (4 ≤ length c.octets → length c.octets ≤ 20480 → ⊥) → r ≡ refuse refusal.Length 0 → Reads reading_octets c before (answer.Refused r) before
+  pub bad-length : {r : RefusalAt} → (4 ≤ length c.octets → length c.octets ≤ 20480 → ⊥) → r ≡ refuse refusal.Length 0 → Reads reading_octets c before (Err r) before
   unfolding reading_octets
   bad-length h e = refuses reading_octets c before (rw (not-between (length c.octets) h, e))
 
   -- of pages, the same is read
-  pub reads-pages : (a : ReadAnswer) (after : List ℕ) → 53 ≤ length c.octets → length c.octets ≤ 1696 → length c.octets % 53 ≡ 0 → Reads reading_octets c before a after → Reads reading c before a after
+  pub reads-pages : (a : Result ℕ RefusalAt) (after : List ℕ) → 53 ≤ length c.octets → length c.octets ≤ 1696 → length c.octets % 53 ≡ 0 → Reads reading_octets c before a after → Reads reading c before a after
   reads-pages a after l m e x =
       let d = same-reading c l m e in
       record { answered = rw d x.answered; buffer = rw d x.buffer }
 
   module _ (l : 4 ≤ length c.octets) (m : length c.octets ≤ 20480) where
-    pub bad-room : {r : RefusalAt} → (c.room ≡ 21808 → ⊥) → r ≡ refuse refusal.Out 0 → Reads reading_octets c before (answer.Refused r) before
+    pub bad-room : {r : RefusalAt} → (c.room ≡ 21808 → ⊥) → r ≡ refuse refusal.Out 0 → Reads reading_octets c before (Err r) before
     unfolding reading_octets
     bad-room h e = refuses reading_octets c before (rw (between (length c.octets) l m, ne_eqb c.room 21808 h, e))
 
@@ -90,12 +84,11 @@ module _ (c : Call) (before : List ℕ) where
       unfolding reading_octets
       is-message = rw (between (length c.octets) l m, eq-eqb c.room 21808 h)
 
-      pub bad-message : (s : PlanRead) {r q : RefusalAt} → MessageRead c.lent c.octets s → s ≡ plan-read.Refused q → r ≡ plan_refusal s → Reads reading_octets c before (answer.Refused r) before
-      bad-message (plan-read.Got plan) m e f = absurd (plan-answers e)
-      bad-message (plan-read.Refused r) m e f = refuses reading_octets c before (is-message ∙ m ∙ ap bad (sym f))
+      pub bad-message : {r : RefusalAt} → message c.lent (bits_of c.octets) 0 ≡ bad r → Reads reading_octets c before (Err r) before
+      bad-message e = refuses reading_octets c before (is-message ∙ e)
 
       pub reads-message : (m : Message) (end : ℕ) (ss : List System) (plan : Plan) (sourced after : List ℕ) (n : ℕ) → message c.lent (bits_of c.octets) 0 ≡ got m end
-          → Planned c.lent c.octets sourced m ss plan → n ≡ length (records ss m) → after ≡ laid before 0 (records ss m) → Reads reading_octets c before (answer.Records (n / 16)) after
+          → Planned c.lent c.octets sourced m ss plan → n ≡ length (records ss m) → after ≡ laid before 0 (records ss m) → Reads reading_octets c before (Ok (n / 16)) after
       reads-message m end ss plan sourced after n e t i j =
           let d = is-message ∙ e in
           let k = records-used c.lent ss m t.ok.used in

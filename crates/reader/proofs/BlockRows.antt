@@ -11,16 +11,15 @@ use Rattle.mt1.specs.Parse.{Parser, ◌>>=◌, ret, raw, field, times, for_each}
 use Rattle.mt1.specs.Message.{System, count, cells_of}
 use Rattle.mt1.specs.Mt1.{interval, block, iod_bits, orbit, orbits, clocks, codes, phase, phases}
 use Rattle.mt1.specs.Records.{at}
-use Rattle.reader.specs.declared.field.Step.{Step}
-use Rattle.reader.specs.declared.field.Step.TheVariants as step
+use Rattle.std.specs.Prelude.{Ok}
 use Rattle.reader.specs.declared.mask.SystemPlan.{SystemPlan}
 use Rattle.reader.specs.declared.mask.MaskPlan.{MaskPlan}
 use Rattle.reader.specs.Steps.{step_of, system_plan, plan_of, mask_plan, MaskOf, skipped_block}
-use Rattle.reader.proofs.Skipping.{walk, walk_same, walk-whole, step-bind, step-ret, field-bind, field-last, for_each-steps, times_none, times-same, item-steps, item-pair, item-field, block-steps}
+use Rattle.reader.proofs.Skipping.{Step, walk, walk_same, walk-whole, step-bind, step-ret, field-bind, field-last, for_each-steps, times_none, times-same, item-steps, item-pair, item-field, block-steps}
 
 module _ (bs : List Bool) where
   -- ---- the rows of at most two systems
-  for_each-none : {S A : Type 0} (p : S → Parser A) (i : ℕ) → step_of (for_each [] p bs i) ≡ step.At i
+  for_each-none : {S A : Type 0} (p : S → Parser A) (i : ℕ) → step_of (for_each [] p bs i) ≡ Ok i
   unfolding for_each ret
   for_each-none p i = refl
 
@@ -33,7 +32,7 @@ module _ (bs : List Bool) where
     abbrev row_of : SystemPlan → ℕ → Step
     row_of l i = step_of (times (N l) (for_each (W l) field) bs i)
 
-    no_row : (i : ℕ) → row_of (plan_of none 0) i ≡ step.At i
+    no_row : (i : ℕ) → row_of (plan_of none 0) i ≡ Ok i
     no_row i = ap (λ (n : ℕ). step_of (times n (for_each (W (plan_of none 0)) field) bs i)) z ∙ times_none bs (for_each (W (plan_of none 0)) field) i
 
     row-of : (s : System) (x i : ℕ) → step_of (q s bs i) ≡ row_of (system_plan s x) i
@@ -42,7 +41,7 @@ module _ (bs : List Bool) where
     rows : (ss : List System) (place : ℕ) → length ss ≤ 2 → (i : ℕ)
         → step_of (for_each ss (λ s. times (R s) (p s)) bs i) ≡ walk (row_of (mask_plan ss place).first i) (row_of (mask_plan ss place).second)
     unfolding mask_plan at
-    rows [] place few i = for_each-none q i ∙ sym (walk_same (step.At i) (row_of (plan_of none 0)) step.At (no_row i) no_row)
+    rows [] place few i = for_each-none q i ∙ sym (walk_same (Ok i) (row_of (plan_of none 0)) Ok (no_row i) no_row)
     rows (s ∷ []) place few i = for_each-steps bs q s [] i
         ∙ walk_same (row_of (system_plan s (place + 8)) i) (λ m. step_of (for_each [] q bs m)) (row_of (plan_of none 0)) (row-of s _ i) (λ m. for_each-none q m ∙ sym (no_row m))
     rows (s ∷ t ∷ []) place few i = for_each-steps bs q s (t ∷ []) i
@@ -56,7 +55,7 @@ module _ (bs : List Bool) where
   block-step p i = step-bind bs interval (λ v. p >>= λ x. ret (record { interval = v; body = x })) (λ k. step_of (p bs k)) i (λ v k _. step-ret bs p (λ x. record { interval = v; body = x }) k)
 
   whole : {A : Type 0} (p : Parser A) (x n m : ℕ) (v w : List ℕ) (i : ℕ)
-      → ((k : ℕ) → step_of (p bs k) ≡ walk (step_of (times x (for_each (2 ∷ 0 ∷ 0 ∷ 0 ∷ []) field) bs k))
+      → ((k : ℕ) → step_of (p bs k) ≡ walk (step_of (times x (for_each (2 ∷ []) field) bs k))
       λ j. walk (step_of (times n (for_each v field) bs j)) λ l. step_of (times m (for_each w field) bs l))
       → step_of (block p bs i) ≡ step_of (skipped_block x n v m w bs i)
   whole p x n m v w i e = block-step p i ∙ walk_same (step_of (interval bs i)) (λ k. step_of (p bs k)) _ refl e ∙ sym (block-steps bs x n m v w i)
@@ -67,7 +66,7 @@ module _ (bs : List Bool) where
       → step_of (block p bs i) ≡ step_of (skipped_block 0 n v m w bs i)
   plain p n m v w i e = whole p 0 n m v w i λ k.
       e k ∙ ap (λ (s : Step). walk s λ j. walk (step_of (times n (for_each v field) bs j)) λ l. step_of (times m (for_each w field) bs l))
-      (sym (times_none bs (for_each (2 ∷ 0 ∷ 0 ∷ 0 ∷ []) field) k))
+      (sym (times_none bs (for_each (2 ∷ []) field) k))
 
   orbit-item : (id m : ℕ) → step_of (orbit id bs m) ≡ step_of (for_each (iod_bits id ∷ 13 ∷ 12 ∷ 12 ∷ []) field bs m)
   unfolding orbit
@@ -84,7 +83,7 @@ module _ (bs : List Bool) where
       (λ in_track l. field-last bs 12 (λ cross_track. record { iod = iod; radial = radial; in_track = in_track; cross_track = cross_track }) l)))
       ∙ sym (item-steps bs (iod_bits id) 13 12 12 m)
 
-  phase-item : (m : ℕ) → step_of (phase bs m) ≡ step_of (for_each (11 ∷ 2 ∷ 0 ∷ 0 ∷ []) field bs m)
+  phase-item : (m : ℕ) → step_of (phase bs m) ≡ step_of (for_each (11 ∷ 2 ∷ []) field bs m)
   unfolding phase
   phase-item m = field-bind bs 11 (λ b. field 2 >>= λ d. ret (record { bias = b; discontinuity = d })) (λ k. step_of (raw 2 bs k)) m
       (λ b k. field-last bs 2 (λ d. record { bias = b; discontinuity = d }) k) ∙ sym (item-pair bs 11 2 m)
@@ -105,21 +104,21 @@ module _ (bs : List Bool) where
         (rows (λ s. count s.satellites) (λ s. orbit s.id) (λ l. l.satellites) (λ l. iod_bits l.id ∷ 13 ∷ 12 ∷ 12 ∷ []) refl (λ s x. refl) (λ s x m. orbit-item s.id m)
         ss place o.few)))
 
-    pub clocks-rows : step_of (skipped_block mask.systems mask.first.satellites (13 ∷ 0 ∷ 0 ∷ 0 ∷ []) mask.second.satellites (13 ∷ 0 ∷ 0 ∷ 0 ∷ []) bs i)
+    pub clocks-rows : step_of (skipped_block mask.systems mask.first.satellites (13 ∷ []) mask.second.satellites (13 ∷ []) bs i)
         ≡ step_of (block (clocks ss) bs i)
     unfolding mask_plan
     clocks-rows = rw o.planned (sym (whole (clocks ss) (length ss) _ _ _ _ i λ k.
         clocks-steps ss k
-        ∙ walk_same (step_of (times (length ss) (for_each (2 ∷ 0 ∷ 0 ∷ 0 ∷ []) field) bs k)) (λ j. step_of (for_each ss (λ s. times (count s.satellites) (field 13)) bs j)) _
-        (times-same bs (length ss) (field 2) (for_each (2 ∷ 0 ∷ 0 ∷ 0 ∷ []) field) k (λ m. sym (item-field bs 2 m)))
-        (rows (λ s. count s.satellites) (λ s. field 13) (λ l. l.satellites) (λ l. 13 ∷ 0 ∷ 0 ∷ 0 ∷ []) refl (λ s x. refl) (λ s x m. sym (item-field bs 13 m)) ss place o.few)))
+        ∙ walk_same (step_of (times (length ss) (for_each (2 ∷ []) field) bs k)) (λ j. step_of (for_each ss (λ s. times (count s.satellites) (field 13)) bs j)) _
+        (times-same bs (length ss) (field 2) (for_each (2 ∷ []) field) k (λ m. sym (item-field bs 2 m)))
+        (rows (λ s. count s.satellites) (λ s. field 13) (λ l. l.satellites) (λ l. 13 ∷ []) refl (λ s x. refl) (λ s x m. sym (item-field bs 13 m)) ss place o.few)))
 
-    pub codes-rows : step_of (skipped_block 0 mask.first.cells (11 ∷ 0 ∷ 0 ∷ 0 ∷ []) mask.second.cells (11 ∷ 0 ∷ 0 ∷ 0 ∷ []) bs i) ≡ step_of (block (codes ss) bs i)
+    pub codes-rows : step_of (skipped_block 0 mask.first.cells (11 ∷ []) mask.second.cells (11 ∷ []) bs i) ≡ step_of (block (codes ss) bs i)
     unfolding codes
     codes-rows = rw o.planned (sym (plain (codes ss) _ _ _ _ i
-        (rows (λ s. count (cells_of s)) (λ s. field 11) (λ l. l.cells) (λ l. 11 ∷ 0 ∷ 0 ∷ 0 ∷ []) refl (λ s x. refl) (λ s x m. sym (item-field bs 11 m)) ss place o.few)))
+        (rows (λ s. count (cells_of s)) (λ s. field 11) (λ l. l.cells) (λ l. 11 ∷ []) refl (λ s x. refl) (λ s x m. sym (item-field bs 11 m)) ss place o.few)))
 
-    pub phases-rows : step_of (skipped_block 0 mask.first.cells (11 ∷ 2 ∷ 0 ∷ 0 ∷ []) mask.second.cells (11 ∷ 2 ∷ 0 ∷ 0 ∷ []) bs i) ≡ step_of (block (phases ss) bs i)
+    pub phases-rows : step_of (skipped_block 0 mask.first.cells (11 ∷ 2 ∷ []) mask.second.cells (11 ∷ 2 ∷ []) bs i) ≡ step_of (block (phases ss) bs i)
     unfolding phases
     phases-rows = rw o.planned (sym (plain (phases ss) _ _ _ _ i
-        (rows (λ s. count (cells_of s)) (λ s. phase) (λ l. l.cells) (λ l. 11 ∷ 2 ∷ 0 ∷ 0 ∷ []) refl (λ s x. refl) (λ s x m. phase-item m) ss place o.few)))
+        (rows (λ s. count (cells_of s)) (λ s. phase) (λ l. l.cells) (λ l. 11 ∷ 2 ∷ []) refl (λ s x. refl) (λ s x m. phase-item m) ss place o.few)))

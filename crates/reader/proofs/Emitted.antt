@@ -17,9 +17,9 @@ use Rattle.reader.specs.declared.mask.SystemPlan.{SystemPlan}
 use Rattle.reader.specs.declared.plan.Plan.{Plan}
 use Rattle.reader.specs.declared.record.Rows.{Rows}
 use Rattle.reader.specs.Steps.{Planned}
-use Rattle.reader.specs.Recording.{Near, Emits, first_rows, second_rows}
+use Rattle.reader.specs.Recording.{Emits, first_rows, second_rows}
 use Rattle.reader.proofs.Emitting.{Wrote, wrote_record, wrote_then, wrote-length, system-next, system-le}
-use Rattle.reader.proofs.Systems.{systems-are, ok_at, near-rows, first-emits, second-emits}
+use Rattle.reader.proofs.Systems.{systems-are, ok_at, first-emits, second-emits}
 
 -- what a call of `emit_system` tells
 abbrev pub Told : List ℕ → List ℕ → SystemPlan → Rows → ℕ → ℕ → ℕ → List ℕ → List ℕ → Type 0
@@ -76,9 +76,6 @@ module _ {lent : Lent} {octets sourced : List ℕ} {m : Message} {ss : List Syst
       first_of : Emits octets sourced plan.mask.first rows m 0 first.0
       first_of = rw rows_are (first-emits planned first.1 (omega (arith, not_None, systems-are planned)))
 
-      pub first-near : Near rows
-      first-near = near-rows planned first_of.rows-stand
-
       pub first-there : (x : Message) × (s : System) × Emits octets sourced plan.mask.first rows x 0 s
       first-there = (m, first.0, first_of)
 
@@ -110,9 +107,6 @@ module _ {lent : Lent} {octets sourced : List ℕ} {m : Message} {ss : List Syst
       module _ {rows : Rows} (rows_are : rows ≡ second_rows plan) where
         second-of : Emits octets sourced plan.mask.second rows m 1 second.0
         second-of = rw rows_are (second-emits planned first.1 second.1 (omega (arith, two)))
-
-        pub second-near : Near rows
-        second-near = near-rows planned second-of.rows-stand
 
         pub second-there : (x : Message) × (s : System) × Emits octets sourced plan.mask.second rows x 1 s
         second-there = (m, second.0, second-of)

@@ -7,14 +7,16 @@ use mathlib.Core.Bool.{Bool, true, false, ◌&&◌}
 use mathlib.Core.List.{List}
 use mathlib.Core.Logic.{◌⊎◌, inl, inr}
 use mathlib.Core.Option.{Option, none, some}
-use mathlib.Core.Path.{◌≡◌, refl, sym, ap, ap₂, ◌∙◌}
+use mathlib.Core.Path.{◌≡◌, refl, ap, ◌∙◌}
 use lib.Dec.{leb}
 use lib.ListN.{length, get_or, take, drop, length-take}
-use lib.Seq.{get_or-drop}
 use borrow.Author.Tests.{leb-true, le-leb, lt-leb}
 use Rattle.bits.specs.Bits.{num, fits_in, number_at}
 use Rattle.bits.proofs.Runs.{number_fits}
 use Rattle.lists.proofs.Tests.{on_bool}
+use Rattle.std.specs.Prelude.{Result, Ok, Err}
+use Rattle.std.specs.Result.{IsErrAnd}
+use Rattle.std.proofs.lemmas.Result.{err_from_is_err_and}
 use Rattle.refusal.specs.declared.Refusal.{Refusal}
 use Rattle.refusal.specs.declared.Refusal.TheVariants as refusal
 use Rattle.mt1.specs.declared.answer.RefusalAt.{RefusalAt}
@@ -22,11 +24,7 @@ use Rattle.mt1.specs.Parse.{Outcome, got, bad, refuse, next, raw, field, verdict
 use Rattle.mt1.specs.Message.{count, count_before}
 use Rattle.mt1.specs.Mt1.{unless, counted}
 use Rattle.mt1.proofs.Counts.{count_next, count-le}
-use Rattle.reader.specs.declared.field.Field.{Field}
-use Rattle.reader.specs.declared.field.Field.TheVariants as field-answer
-use Rattle.reader.specs.declared.field.Step.{Step}
-use Rattle.reader.specs.declared.field.Step.TheVariants as step
-use Rattle.reader.specs.Steps.{field_answer, field_refusal, step_of, step_refusal}
+use Rattle.reader.specs.Steps.{there, field_answer, step_of}
 
 -- ---- by what the code tests
 module _ (n : ℕ) (bs : List Bool) (at : ℕ) where
@@ -45,6 +43,23 @@ module _ (n : ℕ) (bs : List Bool) (at : ℕ) where
   pub field-short : fits_in bs at n ≡ false → field n bs at ≡ bad (refuse refusal.Short at)
   unfolding field
   field-short f = rw (raw-short f)
+
+-- by the code's test of whether they are there
+module _ (n : ℕ) (bs : List Bool) (at : ℕ) where
+  pub enough : {u : Unit {0}} → Ok u ≡ there (raw n bs at) → fits_in bs at n ≡ true
+  enough e = on_bool (fits_in bs at n) (λ f. f)
+      (λ f. absurd (let h = e ∙ ap there (raw-short n bs at f) in let z : ◌≡◌ {A = ℕ} 0 1 = cc in omega arith))
+
+  pub raw-lacking : {r : RefusalAt} → Err r ≡ there (raw n bs at) → raw n bs at ≡ bad r
+  raw-lacking {r} e = on (raw n bs at) e
+    where
+      on : {A : Type 0} (o : Outcome A) → Err r ≡ there o → o ≡ bad r
+      on (got x end) e = absurd (let z : ◌≡◌ {A = ℕ} 0 1 = cc in omega arith)
+      on (bad y) e = let h : y ≡ r = cc in ap bad h
+
+  pub field-lacking : {r : RefusalAt} → Err r ≡ there (raw n bs at) → field n bs at ≡ bad r
+  unfolding field
+  field-lacking e = rw (raw-lacking e)
 
 -- ---- a field that is judged
 module _ (n : ℕ) (wrong : ℕ → Option Refusal) (bs : List Bool) (at : ℕ) where
@@ -90,6 +105,10 @@ module _ (most : ℕ) (bs : List Bool) (at : ℕ) where
   counted-fine {n} e lo hi = judged-fine 4 wrong_count bs at e (rw (le-leb 1 n lo, le-leb n most hi))
 
 -- ---- what an answer tells
+-- what a `?` hands on is the refusal that it met
+pub handed : {T : Type 0} (s : Result T RefusalAt) {r : RefusalAt} → IsErrAnd s (λ x. x ≡ r) → s ≡ Err r
+handed s h = let p = err_from_is_err_and s h in p.1 ∙ ap Err p.2
+
 -- where an outcome ends, if it is got
 abbrev pub Ends : {A : Type 0} → Outcome A → ℕ → Type 0
 Ends (got x end) m = end ≡ m
@@ -111,32 +130,27 @@ judged-ends n wrong bs at = on (field n bs at) (at + n) (field-ends n bs at)
     on (got v end) m e = of (wrong v) v end m e
     on (bad r) m e = tt
 
-pub field-got : (o : Outcome ℕ) {m v : ℕ} {f : Field} → Ends o m → f ≡ field_answer o → f ≡ field-answer.Got v → o ≡ got v m
-field-got (got x end) {v = v} s e g = let y : x ≡ v = cc in rw (y, s)
-field-got (bad y) s e g = absurd (let z : ◌≡◌ {A = ℕ} 0 1 = cc in omega arith)
+pub field-got : (o : Outcome ℕ) {m v : ℕ} → Ends o m → Ok v ≡ field_answer o → o ≡ got v m
+field-got (got x end) {v = v} s e = let y : x ≡ v = cc in rw (y, s)
+field-got (bad y) s e = absurd (let z : ◌≡◌ {A = ℕ} 0 1 = cc in omega arith)
 
-pub field-bad : (o : Outcome ℕ) {x r : RefusalAt} {f : Field} → f ≡ field_answer o → f ≡ field-answer.Refused x → r ≡ field_refusal f → o ≡ bad r
-field-bad (got v end) e g h = absurd (let z : ◌≡◌ {A = ℕ} 0 1 = cc in omega arith)
-field-bad (bad y) e g h = ap bad (sym (h ∙ ap field_refusal e))
+pub field-bad : (o : Outcome ℕ) {r : RefusalAt} → Err r ≡ field_answer o → o ≡ bad r
+field-bad (got v end) e = absurd (let z : ◌≡◌ {A = ℕ} 0 1 = cc in omega arith)
+field-bad (bad y) {r} e = let h : y ≡ r = cc in ap bad h
 
-pub step-bad : {A : Type 0} (o : Outcome A) {x r : RefusalAt} {s : Step} → s ≡ step_of o → s ≡ step.Refused x → r ≡ step_refusal s → o ≡ bad r
-step-bad (got v end) e g h = absurd (let z : ◌≡◌ {A = ℕ} 0 1 = cc in omega arith)
-step-bad (bad y) e g h = ap bad (sym (h ∙ ap step_refusal e))
+pub step-bad : {A : Type 0} (o : Outcome A) {r : RefusalAt} → Err r ≡ step_of o → o ≡ bad r
+step-bad (got v end) e = absurd (let z : ◌≡◌ {A = ℕ} 0 1 = cc in omega arith)
+step-bad (bad y) {r} e = let h : y ≡ r = cc in ap bad h
 
 -- what is passed over is there
-pub skipped : (n : ℕ) (bs : List Bool) (at : ℕ) {m : ℕ} {s : Step} → s ≡ step_of (raw n bs at) → s ≡ step.At m → (m ≡ at + n) × (fits_in bs at n ≡ true)
-skipped n bs at e g = on_bool (fits_in bs at n)
+pub skipped : (n : ℕ) (bs : List Bool) (at : ℕ) {m : ℕ} → Ok m ≡ step_of (raw n bs at) → (m ≡ at + n) × (fits_in bs at n ≡ true)
+skipped n bs at e = on_bool (fits_in bs at n)
     (λ f. let h = e ∙ ap step_of (raw-there n bs at f) in (cc, f))
     (λ f. absurd (let h = e ∙ ap step_of (raw-short n bs at f) in let z : ◌≡◌ {A = ℕ} 0 1 = cc in omega arith))
 
 -- ---- the bits that are 1, one by one
 pub before-next : (bs : List Bool) (i : ℕ) → count_before bs (i + 1) ≡ count_before bs i + num (get_or bs i false)
 before-next bs i = ap (count_before bs) (add-one i) ∙ count_next bs i
-
-pub count-more : (k at : ℕ) (bs : List Bool) {x y : ℕ} → x ≡ count (take k (drop at bs)) → (b : Bool) → b ≡ get_or bs (at + k) false → y ≡ x + num b
-    → y ≡ count (take (k + 1) (drop at bs))
-unfolding count_before
-count-more k at bs h b e f = f ∙ ap₂ (λ (n : ℕ) (c : Bool). n + num c) h (e ∙ sym (get_or-drop at bs k false)) ∙ sym (before-next (drop at bs) k)
 
 pub count-few : (n : ℕ) (l : List Bool) → count (take n l) ≤ n
 count-few n l = omega (arith, count-le (take n l), length-take n l)

@@ -1,10 +1,11 @@
 -- The header and a mask, where they stand: the code's reading of them is the parser's.
 -- The header's bits stand at its fields' places, a mask's systems each behind its GNSS ID.
+use Prim.{tt}
 use Prim.Native.Nat.{ℕ, ◌+◌, ◌≤◌, ◌<◌}
 use native.Mathlib.Omega.{arith}
 use mathlib.Core.Bool.{Bool}
 use mathlib.Core.List.{List, [], ◌∷◌}
-use mathlib.Core.Path.{◌≡◌, refl, sym, ap, ◌∙◌}
+use mathlib.Core.Path.{◌≡◌, refl, sym, ap}
 use lib.ListN.{length, take, drop, length-append}
 use borrow.Author.Tests.{le-leb, lt-ltb, le-ltb}
 use Rattle.bits.specs.Bits.{bits, value, number_at}
@@ -22,9 +23,9 @@ use Rattle.mt1.specs.Records.{at}
 use Rattle.mt1.proofs.Spans.{Span, span-split}
 use Rattle.mt1.proofs.Masks.{header-reads, mask-reads}
 use Rattle.reader.specs.declared.mask.MaskPlan.{MaskPlan}
-use Rattle.reader.specs.declared.mask.MaskRead.{MaskRead}
-use Rattle.reader.specs.declared.mask.MaskRead.TheVariants as mask-read
-use Rattle.reader.specs.Steps.{Stands, body_bits, mask_plan, mask_answer, mask_refusal, MaskStands}
+use Rattle.reader.specs.declared.field.Read.{Read}
+use Rattle.std.specs.Prelude.{Ok, Err}
+use Rattle.reader.specs.Steps.{StandsAt, body_bits, mask_plan, mask_answer, MaskStands}
 use Rattle.reader.proofs.SystemSteps.{body-length}
 use Rattle.reader.proofs.FixedFields.{split, header_read}
 
@@ -86,14 +87,14 @@ eight : (place : ℕ) → place + 4 + 4 ≡ place + 8
 eight place = omega arith
 
 systems-stand : (bs : List Bool) (ss : List System) (place : ℕ) {end : ℕ} → Every SystemOk ss → Span bs (place + 4) (each system_bits ss) end
-    → Stands bs (mask_plan ss place).first.place body_bits (at ss 0) × Stands bs (mask_plan ss place).second.place body_bits (at ss 1)
+    → StandsAt bs (mask_plan ss place).first.place (at ss 0) × StandsAt bs (mask_plan ss place).second.place (at ss 1)
 unfolding mask_plan at
-systems-stand bs [] place o t = (refl, refl)
-systems-stand bs (s ∷ []) place o t = ((omega arith, (_, rw (eight place) at (first-system bs s [] (place + 4) o.0 t).0)), refl)
+systems-stand bs [] place o t = (tt, tt)
+systems-stand bs (s ∷ []) place o t = ((_, rw (eight place) at (first-system bs s [] (place + 4) o.0 t).0), tt)
 systems-stand bs (s ∷ r ∷ ss) place o t =
     let (u, v) = first-system bs s (r ∷ ss) (place + 4) o.0 t in
     let w = (first-system bs r ss (place + 8 + (60 + length s.cells)) o.1.0 (rw (eight place) at v)).0 in
-    ((omega arith, (_, rw (eight place) at u)), (omega arith, (_, w)))
+    ((_, rw (eight place) at u), (_, w))
 
 -- a mask that is read, and the code's plan of it
 pub record Found (bs : List Bool) (place : ℕ) (m : Mask) (plan : MaskPlan) (end : ℕ) : Type 0 where
@@ -118,23 +119,17 @@ mask-stands bs m place {end} near l e =
     }
 
 -- what the code's reading of a mask tells
-mask-answers : {plan : MaskPlan} {end : ℕ} {r : RefusalAt} → mask-read.Got plan end ≡ mask-read.Refused r → ⊥
-mask-answers e = let z : ◌≡◌ {A = ℕ} 0 1 = cc in omega arith
-
-pub found : (bs : List Bool) (place : ℕ) {a : MaskRead} {plan : MaskPlan} {end : ℕ} → place ≤ 32 → place ≤ length bs → a ≡ mask_answer place (mask bs place) → a ≡ mask-read.Got plan end
-    → (m : Mask) × Found bs place m plan end
-found bs place {a} {plan} {end} near l = by-case (mask bs place) refl
+pub found : (bs : List Bool) (place : ℕ) {read : Read MaskPlan} → place ≤ 32 → place ≤ length bs → Ok read ≡ mask_answer place (mask bs place) → (m : Mask) × Found bs place m read.plan read.end
+found bs place {read} near l = by-case (mask bs place) refl
   where
-    by-case : (o : Outcome Mask) → mask bs place ≡ o → a ≡ mask_answer place o → a ≡ mask-read.Got plan end → (m : Mask) × Found bs place m plan end
-    by-case (got m n) t e f =
-        let p : plan ≡ mask_plan m.systems place = cc in
-        let q : end ≡ n = cc in
+    by-case : (o : Outcome Mask) → mask bs place ≡ o → Ok read ≡ mask_answer place o → (m : Mask) × Found bs place m read.plan read.end
+    by-case (got m n) t e =
+        let h : read ≡ record { plan = mask_plan m.systems place; end = n } = cc in
+        let p : read.plan ≡ mask_plan m.systems place = ap (λ (x : Read MaskPlan). x.plan) h in
+        let q : read.end ≡ n = ap (λ (x : Read MaskPlan). x.end) h in
         (m, rw (p, q) (mask-stands bs m place near l t))
-    by-case (bad r) t e f = absurd (mask-answers (sym f ∙ e))
+    by-case (bad r) t e = absurd (let z : ◌≡◌ {A = ℕ} 0 1 = cc in omega arith)
 
-pub mask-refused : (o : Outcome Mask) (place : ℕ) {a : MaskRead} {r q : RefusalAt} → a ≡ mask_answer place o → a ≡ mask-read.Refused q → r ≡ mask_refusal a → o ≡ bad r
-mask-refused (got m end) place e f g = absurd (mask-answers (sym e ∙ f))
-mask-refused (bad r) place e f g = ap bad (sym (g ∙ ap mask_refusal e))
-
-pub mask-unread : (o : Outcome Mask) (place : ℕ) {a : MaskRead} {q : RefusalAt} → a ≡ mask_answer place o → a ≡ mask-read.Refused q → o ≡ bad q
-mask-unread o place e f = mask-refused o place e f (ap mask_refusal (sym f))
+pub mask-refused : (o : Outcome Mask) (place : ℕ) {r : RefusalAt} → Err r ≡ mask_answer place o → o ≡ bad r
+mask-refused (got m end) place e = absurd (let z : ◌≡◌ {A = ℕ} 0 1 = cc in omega arith)
+mask-refused (bad y) place {r} e = let h : y ≡ r = cc in ap bad h

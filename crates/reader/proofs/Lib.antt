@@ -1,5 +1,6 @@
 -- Fields
 mod Fields
+pub mod Ones
 -- The mask
 mod SystemSteps
 mod MaskSteps

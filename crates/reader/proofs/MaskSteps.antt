@@ -2,16 +2,18 @@
 -- Each field's outcome settles the next step; the second system begins where the first, as long as its bits, ends.
 use Prim.Native.Nat.{ℕ, suc, ◌+◌, ◌-◌, ◌≤◌, ◌<◌}
 use native.Mathlib.Omega.{arith}
-use mathlib.Core.Bool.{Bool, true}
+use mathlib.Core.Bool.{Bool, true, false, ◌||◌}
 use mathlib.Core.List.{List, [], ◌∷◌}
-use mathlib.Core.Logic.{◌⊎◌, inl, inr}
+use mathlib.Core.Logic.{◌⊎◌}
 use mathlib.Core.Option.{none, some}
-use mathlib.Core.Path.{◌≡◌, refl, ap, ◌∙◌}
+use mathlib.Core.Path.{◌≡◌, refl, sym, ap, ap₂, ◌∙◌}
 use lib.Dec.{eqb}
 use lib.ListN.{length}
-use borrow.Author.Tests.{eqb-true, eq-eqb, ne_eqb}
+use borrow.Author.Tests.{eqb-true, eq-eqb}
 use Rattle.lists.specs.Lists.{memb}
-use Rattle.lists.proofs.Tests.{on_bool}
+use Rattle.lists.proofs.Tests.{on_bool, clash}
+use Rattle.std.specs.List.{list_any}
+use Rattle.std.specs.Prelude.{Result, Ok}
 use Rattle.refusal.specs.declared.Refusal.TheVariants as refusal
 use Rattle.mt1.specs.declared.answer.RefusalAt.{RefusalAt}
 use Rattle.mt1.specs.Parse.{Outcome, got, bad, refuse, next, ◌>>=◌, ret, field, judged, wrong_id, systems}
@@ -19,37 +21,34 @@ use Rattle.mt1.specs.Message.{System}
 use Rattle.mt1.specs.Mt1.{known, system, counted, mask}
 use Rattle.mt1.specs.Records.{at}
 use Rattle.reader.specs.declared.mask.SystemPlan.{SystemPlan}
-use Rattle.reader.specs.declared.mask.MaskRead.{MaskRead}
-use Rattle.reader.specs.declared.mask.MaskRead.TheVariants as mask-read
+use Rattle.reader.specs.declared.field.Read.{Read}
+use Rattle.reader.specs.declared.mask.MaskPlan.{MaskPlan}
 use Rattle.reader.specs.Steps.{system_plan, plan_of, mask_plan, mask_answer, mask_end, second_system, second_answer}
-use Rattle.reader.proofs.Fields.{judged-same, counted-bad, counted-wrong, counted-fine}
+use Rattle.reader.proofs.Fields.{counted-bad, counted-wrong, counted-fine}
 use Rattle.reader.proofs.SystemSteps.{system-long}
 
--- ---- a GNSS ID of two, that is not the one that came
-among : (v first second : ℕ) → (v ≡ first) ⊎ (v ≡ second) → memb v (first ∷ second ∷ []) ≡ true
-among v first second (inl e) = rw (eq-eqb v first e)
-among v first second (inr e) = on_bool (eqb v first) (λ f. rw f) (λ f. rw (f, eq-eqb v second e))
+-- ---- a GNSS ID that may come, and did not
+-- whether the slice has it
+pub memb-any : (l : List ℕ) (v : ℕ) → list_any (λ x. eqb x v) l ≡ memb v l
+memb-any [] v = refl
+memb-any (x ∷ l) v = ap₂ ◌||◌ (turned x v) (memb-any l v)
+  where
+    turned : (a b : ℕ) → eqb a b ≡ eqb b a
+    turned a b = on_bool (eqb b a) (λ t. eq-eqb a b (sym (eqb-true b a t)) ∙ sym t)
+        (λ f. on_bool (eqb a b) (λ t. clash (eq-eqb b a (sym (eqb-true a b t))) f) (λ g. g ∙ sym f))
 
-module _ (v first second came : ℕ) where
-  pub id-strange : (v ≡ first → ⊥) → (v ≡ second → ⊥) → wrong_id (first ∷ second ∷ []) (came ∷ []) v ≡ some refusal.System
+module _ (may came : List ℕ) (v : ℕ) where
+  pub id-strange : memb v may ≡ false → wrong_id may came v ≡ some refusal.System
   unfolding wrong_id
-  id-strange f g = rw (ne_eqb v first f, ne_eqb v second g)
+  id-strange f = rw f
 
-  pub id-twice : (v ≡ first) ⊎ (v ≡ second) → v ≡ came → wrong_id (first ∷ second ∷ []) (came ∷ []) v ≡ some refusal.Twice
+  pub id-twice : memb v may ≡ true → memb v came ≡ true → wrong_id may came v ≡ some refusal.Twice
   unfolding wrong_id
-  id-twice m e = rw (among v first second m, eq-eqb v came e)
+  id-twice m e = rw (m, e)
 
-  pub id-fine : (v ≡ first) ⊎ (v ≡ second) → (v ≡ came → ⊥) → wrong_id (first ∷ second ∷ []) (came ∷ []) v ≡ none
+  pub id-fine : memb v may ≡ true → memb v came ≡ false → wrong_id may came v ≡ none
   unfolding wrong_id
-  id-fine m f = rw (among v first second m, ne_eqb v came f)
-
--- 16 is no GNSS ID: that it came says as much as that none came
-no-id : (v : ℕ) → wrong_id known [] v ≡ wrong_id known (16 ∷ []) v
-unfolding wrong_id
-no-id v = on_bool (eqb v 16) (λ e. rw (eqb-true v 16 e) refl) (λ f. rw f refl)
-
-none_came : (bs : List Bool) (place : ℕ) → judged 4 (wrong_id known []) bs place ≡ judged 4 (wrong_id known (16 ∷ [])) bs place
-none_came bs place = judged-same 4 (wrong_id known []) (wrong_id known (16 ∷ [])) bs place no-id
+  id-fine m f = rw (m, f)
 
 -- ---- a mask from its second system on
 module _ (came place : ℕ) (bs : List Bool) where
@@ -85,44 +84,44 @@ module _ (place : ℕ) (bs : List Bool) where
     counted-two : counted 2 bs place ≡ got (suc (n - 1)) (place + 4)
     counted-two = let e : suc (n - 1) ≡ n = omega arith in rw e (counted-fine 2 bs place hn lo hi)
 
-    pub first-id-bad : {r : RefusalAt} → judged 4 (wrong_id known (16 ∷ [])) bs (place + 4) ≡ bad r → mask bs place ≡ bad r
+    pub first-id-bad : {r : RefusalAt} → judged 4 (wrong_id known []) bs (place + 4) ≡ bad r → mask bs place ≡ bad r
     unfolding mask systems ◌>>=◌
-    first-id-bad e = rw (counted-two, none_came bs (place + 4), e)
+    first-id-bad e = rw (counted-two, e)
 
-    module _ {id : ℕ} (hd : judged 4 (wrong_id known (16 ∷ [])) bs (place + 4) ≡ got id (place + 4 + 4)) where
-      id-there : judged 4 (wrong_id known (16 ∷ [])) bs (place + 4) ≡ got id (place + 8)
+    module _ {id : ℕ} (hd : judged 4 (wrong_id known []) bs (place + 4) ≡ got id (place + 4 + 4)) where
+      id-there : judged 4 (wrong_id known []) bs (place + 4) ≡ got id (place + 8)
       id-there = let e : place + 8 ≡ place + 4 + 4 = omega arith in rw e hd
 
       pub first-bad : {r : RefusalAt} → system id bs (place + 8) ≡ bad r → mask bs place ≡ bad r
       unfolding mask systems ◌>>=◌
-      first-bad e = rw (counted-two, none_came bs (place + 4), id-there, e)
+      first-bad e = rw (counted-two, id-there, e)
 
       module _ {s : System} {end : ℕ} (hs : system id bs (place + 8) ≡ got s end) where
         pub mask_one : n ≡ 1 → mask_end (record { systems = 1; first = system_plan s (place + 8); second = plan_of none 0 }) (field 6 bs end) ≡ mask_answer place (mask bs place)
         unfolding mask systems ◌>>=◌ ret mask_plan at
         mask_one o =
             let e : n - 1 ≡ 0 = omega arith in
-            rw (counted-two, e, none_came bs (place + 4), id-there, hs) (on (field 6 bs end))
+            rw (counted-two, e, id-there, hs) (on (field 6 bs end))
           where
             on : (o : Outcome ℕ) → mask_end (record { systems = 1; first = system_plan s (place + 8); second = plan_of none 0 }) o
                 ≡ mask_answer place (next o (λ r m. got (record { systems = s ∷ []; reserved = r }) m))
             on (got v m) = refl
             on (bad r) = refl
 
-        pub mask-two : n ≡ 2 → {first : SystemPlan} {r : MaskRead} → first ≡ system_plan s (place + 8) → r ≡ second_answer first end (second_system first.id bs end)
+        pub mask-two : n ≡ 2 → {first : SystemPlan} {r : Result (Read MaskPlan) RefusalAt} → first ≡ system_plan s (place + 8) → r ≡ second_answer first end (second_system first.id bs end)
             → r ≡ mask_answer place (mask bs place)
         unfolding mask systems second_system ◌>>=◌ ret mask_plan at
         mask-two o p h =
             let e : n - 1 ≡ 1 = omega arith in
             h ∙ ap (λ (first : SystemPlan). second_answer first end (second_system first.id bs end)) p
             ∙ ap (λ (i : ℕ). second_answer (system_plan s (place + 8)) end (second_system i bs end)) (system-long id (place + 8) bs hs).of
-            ∙ rw (counted-two, e, none_came bs (place + 4), id-there, hs) (on-id (judged 4 (wrong_id known (id ∷ [])) bs end))
+            ∙ rw (counted-two, e, id-there, hs) (on-id (judged 4 (wrong_id known (id ∷ [])) bs end))
           where
             on-end : (t : System) (o : Outcome ℕ)
                 → second_answer (system_plan s (place + 8)) end (next o (λ r m. got t m)) ≡ mask_answer place (next o (λ r m. got (record { systems = s ∷ t ∷ []; reserved = r }) m))
             on-end t (got r m) =
                 let e : end + 4 ≡ place + 8 + (60 + length s.cells) + 4 = omega (arith, (system-long id (place + 8) bs hs).ends) in
-                ap (λ (x : ℕ). mask-read.Got (record { systems = 2; first = system_plan s (place + 8); second = system_plan t x }) m) e
+                ap (λ (x : ℕ). Ok (record { plan = record { systems = 2; first = system_plan s (place + 8); second = system_plan t x }; end = m })) e
             on-end t (bad r) = refl
 
             on-system : (o : Outcome System) → second_answer (system_plan s (place + 8)) end (next o (λ t m. next (field 6 bs m) (λ r k. got t k)))

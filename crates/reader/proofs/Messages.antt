@@ -13,17 +13,17 @@ use Rattle.bits.specs.Bits.{bits_of}
 use Rattle.lists.proofs.Tests.{on_bool}
 use Rattle.refusal.specs.declared.Refusal.TheVariants as refusal
 use Rattle.mt1.specs.declared.answer.RefusalAt.{RefusalAt}
-use Rattle.mt1.specs.Parse.{got, bad, refuse, ◌>>=◌, ret, fail, optional}
+use Rattle.mt1.specs.Parse.{Outcome, got, bad, refuse, ◌>>=◌, ret, fail, optional}
 use Rattle.mt1.specs.Message.{Header, has_orbit, has_clock, has_subset, has_code, has_phase, System, Mask, Message}
-use Rattle.mt1.specs.Mt1.{header, mask, block, orbits, clocks, subset, codes, phases, needs_mask, used, or_mask, behind, Lent, lent_for, message}
+use Rattle.mt1.specs.Mt1.{header, mask, block, orbits, clocks, subset, codes, phases, needs_mask, used, or_mask, behind, Lent, lent_for, is_none, message}
 use Rattle.mt1.specs.Records.{at}
 use Rattle.mt1.proofs.Combinators.{next-elim}
 use Rattle.mt1.proofs.Inverted.{message-reads}
 use Rattle.reader.specs.declared.mask.MaskPlan.{MaskPlan}
 use Rattle.reader.specs.declared.plan.Plan.{Plan}
-use Rattle.reader.specs.declared.plan.PlanRead.{PlanRead}
-use Rattle.reader.specs.declared.plan.PlanRead.TheVariants as plan-read
-use Rattle.reader.specs.Steps.{mask_plan, MaskOf, MaskStands, blocks, BlocksStand, BlocksRead, source, LentRead, MessageRead, Planned}
+use Rattle.std.specs.Prelude.{Result, Ok, Err}
+use Rattle.std.specs.Result.{is_err}
+use Rattle.reader.specs.Steps.{mask_plan, mask_answer, MaskOf, MaskStands, blocks, BlocksStand, BlocksRead, source, LentRead, MessageRead, Planned}
 use Rattle.reader.proofs.Planning.{flag}
 use Rattle.reader.proofs.Headers.{header_at, Found}
 
@@ -40,16 +40,24 @@ pub lent-clean : (lent : Lent) (id : ℕ) {m : Mask} {end : ℕ} → lent.id ≡
 unfolding lent_for
 lent-clean lent id h e = rw (eq-eqb lent.id id h, e)
 
+-- whether it is lacking, as the code's reading of it tells
+pub lent-lacking : (lent : Lent) (id : ℕ) → lent.id ≡ id → is_err (mask_answer 0 (mask (bits_of lent.octets) 0)) ≡ is_none (lent_for lent id)
+lent-lacking lent id h = by-case (mask (bits_of lent.octets) 0) refl
+  where
+    by-case : (o : Outcome Mask) → mask (bits_of lent.octets) 0 ≡ o → is_err (mask_answer 0 o) ≡ is_none (lent_for lent id)
+    by-case (got m end) e = sym (ap is_none (lent-clean lent id h e))
+    by-case (bad r) e = sym (ap is_none (lent-unclean lent id e))
+
 module _ (lent : Lent) (h : Header) (n : needs_mask h ≡ true) (octets : List ℕ) where
-  pub lent-missing : {r : RefusalAt} → r ≡ refuse refusal.Mask 22 → lent_for lent h.mask_id ≡ none → LentRead lent h octets (plan-read.Refused r)
+  pub lent-missing : {r : RefusalAt} → r ≡ refuse refusal.Mask 22 → lent_for lent h.mask_id ≡ none → LentRead lent h octets (Err r)
   unfolding ◌>>=◌ used fail
   lent-missing f e = rw (e, n, f)
 
-  pub lent-read : (m : Mask) (plan : MaskPlan) (r : PlanRead) → lent_for lent h.mask_id ≡ some m → MaskStands (bits_of lent.octets) m.systems plan
+  pub lent-read : (m : Mask) (plan : MaskPlan) (r : Result Plan RefusalAt) → lent_for lent h.mask_id ≡ some m → MaskStands (bits_of lent.octets) m.systems plan
       → BlocksRead h none m.systems (bits_of octets) 32 true plan r → LentRead lent h octets r
   unfolding ◌>>=◌ used ret
-  lent-read m plan (plan-read.Got p) e s (x, end, b, t, l, k) = (x, end, m, e, b, t, l, rw k s)
-  lent-read m plan (plan-read.Refused r) e s b = rw (e, n) b
+  lent-read m plan (Ok p) e s (x, end, b, t, l, k) = (x, end, m, e, b, t, l, rw k s)
+  lent-read m plan (Err r) e s b = rw (e, n) b
 
 -- ---- the message
 keeps : (h : Header) (own : Option Mask) (ss : List System) (bs : List Bool) (place : ℕ) {m : Message} {end : ℕ} → blocks h own ss bs place ≡ got m end → (m.header ≡ h) × (m.mask ≡ own)
@@ -75,7 +83,7 @@ none_made e = record { planned = e; few = omega arith; each = tt; differ = tt }
 
 no-mask : (bs : List Bool) {plan : MaskPlan} → plan ≡ mask_plan [] 0 → MaskStands bs [] plan
 unfolding mask_plan at
-no-mask bs e = record { made = (0, none_made e); near = omega arith; first = ap (λ (p : MaskPlan). p.first.place) e; second = ap (λ (p : MaskPlan). p.second.place) e }
+no-mask bs e = record { made = (0, none_made e); near = omega arith; first = tt; second = tt }
 
 module _ (lent : Lent) (octets : List ℕ) where
   pub message-bad : {r : RefusalAt} → header (bits_of octets) 0 ≡ bad r → message lent (bits_of octets) 0 ≡ bad r
@@ -109,13 +117,13 @@ module _ (lent : Lent) (octets : List ℕ) where
           record { ok = rw d at ok; header = rw o (header_at (bits_of octets) h e).span; mask = w; blocks = t; short = short }
 
     -- its own mask, or none, is in its octets
-    message-read : (own : Option Mask) (ss : List System) (place : ℕ) (plan : MaskPlan) (r : PlanRead) → message lent (bits_of octets) 0 ≡ blocks h own ss (bits_of octets) place
+    message-read : (own : Option Mask) (ss : List System) (place : ℕ) (plan : MaskPlan) (r : Result Plan RefusalAt) → message lent (bits_of octets) 0 ≡ blocks h own ss (bits_of octets) place
         → used (lent_for lent h.mask_id) h own ≡ some ss → MaskStands (bits_of octets) ss plan → BlocksRead h own ss (bits_of octets) place false plan r → MessageRead lent octets r
-    message-read own ss place w (plan-read.Got plan) s u t (m, end, b, v, l, k) =
+    message-read own ss place w (Ok plan) s u t (m, end, b, v, l, k) =
         (m, end, ss, s ∙ b, subst (λ (f : Bool). Planned lent octets (source f octets lent.octets) m ss plan) (sym l) (stands own ss place s u octets m end plan b (rw k t) v))
-    message-read own ss place w (plan-read.Refused r) s u t b = s ∙ b
+    message-read own ss place w (Err r) s u t b = s ∙ b
 
-    pub own_read : (m : Mask) {place : ℕ} {plan : MaskPlan} (r : PlanRead) → get_or (bits_of octets) 12 false ≡ true → Found (bits_of octets) 32 m plan place
+    pub own_read : (m : Mask) {place : ℕ} {plan : MaskPlan} (r : Result Plan RefusalAt) → get_or (bits_of octets) 12 false ≡ true → Found (bits_of octets) 32 m plan place
         → BlocksRead h (some m) m.systems (bits_of octets) place false plan r → MessageRead lent octets r
     unfolding used
     own_read m {place} {plan} r f w = message-read (some m) m.systems place plan r (own-got m f w.read) refl w.stands
@@ -125,11 +133,11 @@ module _ (lent : Lent) (octets : List ℕ) where
       unfolding ◌>>=◌ ret
       uses ss u = not_own f ∙ rw u
 
-      pub none_read : {plan : MaskPlan} (r : PlanRead) → needs_mask h ≡ false → plan ≡ mask_plan [] 0 → BlocksRead h none [] (bits_of octets) 32 false plan r → MessageRead lent octets r
+      pub none_read : {plan : MaskPlan} (r : Result Plan RefusalAt) → needs_mask h ≡ false → plan ≡ mask_plan [] 0 → BlocksRead h none [] (bits_of octets) 32 false plan r → MessageRead lent octets r
       none_read {plan} r n k = let u = unused (lent_for lent h.mask_id) h n in message-read none [] 32 plan r (uses [] u) u (no-mask (bits_of octets) k)
 
-      pub lent-message : (r : PlanRead) → needs_mask h ≡ true → LentRead lent h octets r → MessageRead lent octets r
-      lent-message (plan-read.Got plan) n (m, end, w, i, b, t, l, v) =
+      pub lent-message : (r : Result Plan RefusalAt) → needs_mask h ≡ true → LentRead lent h octets r → MessageRead lent octets r
+      lent-message (Ok plan) n (m, end, w, i, b, t, l, v) =
           let u : used (lent_for lent h.mask_id) h none ≡ some w.systems = rw i (lent-used w h n) in (
             m,
             end,
@@ -137,4 +145,4 @@ module _ (lent : Lent) (octets : List ℕ) where
             uses w.systems u ∙ b,
             subst (λ (f : Bool). Planned lent octets (source f octets lent.octets) m w.systems plan) (sym l) (stands none w.systems 32 (uses w.systems u) u lent.octets m end plan b v t),
           )
-      lent-message (plan-read.Refused r) n b = not_own f ∙ b
+      lent-message (Err r) n b = not_own f ∙ b

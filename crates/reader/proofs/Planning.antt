@@ -2,86 +2,76 @@
 -- A block that is passed over is got, so that its bits stand there; the parser goes on behind it, and a refusal of one is the refusal of all.
 use Prim.Native.Nat.{ℕ, ◌+◌, ◌≤◌, ◌<◌}
 use native.Mathlib.Omega.{arith}
-use mathlib.Core.Bool.{Bool, true, false, ◌||◌, cond}
+use mathlib.Core.Bool.{Bool, true, false, ◌||◌}
 use mathlib.Core.List.{List}
 use mathlib.Core.Option.{Option, none, some}
-use mathlib.Core.Path.{◌≡◌, refl, sym, ap, subst, ◌∙◌}
+use mathlib.Core.Path.{◌≡◌, refl, sym, ap, ◌∙◌}
 use lib.ListN.{length, get_or, take, drop}
 use lib.Seq.{get_or-take, get_or-drop}
 use Rattle.mt1.specs.declared.answer.RefusalAt.{RefusalAt}
 use Rattle.mt1.specs.Parse.{got, bad, Parser, next, ◌>>=◌, ret, optional}
 use Rattle.mt1.specs.Message.{Header, System, Mask, Orbit, Clocks, Subset, Phase, Block}
-use Rattle.mt1.specs.Mt1.{block, iod_bits, orbits, clocks, subset, codes, phases, needs_mask}
+use Rattle.mt1.specs.Mt1.{block, orbits, clocks, subset, codes, phases, needs_mask}
 use Rattle.mt1.specs.Encode.{block_bits, orbits_bits, clocks_bits, subsets_bits, codes_bits, phases_bits}
 use Rattle.mt1.proofs.Combinators.{Reads, next-elim}
-use Rattle.mt1.proofs.Blocks.{Masked, block_reads, iod-le, subset-reads}
-use Rattle.reader.specs.declared.field.Step.{Step}
-use Rattle.reader.specs.declared.field.Step.TheVariants as step
+use Rattle.mt1.proofs.Blocks.{Masked, block_reads, orbits-reads, clocks-reads, subset-reads, codes-reads, phases-reads}
+use Rattle.reader.specs.declared.field.Read.{Read}
+use Rattle.std.specs.Bool.{then_some}
+use Rattle.std.specs.Prelude.{None, Ok, Err}
 use Rattle.reader.specs.declared.mask.MaskPlan.{MaskPlan}
 use Rattle.reader.specs.declared.subset.SubsetPlan.{SubsetPlan}
-use Rattle.reader.specs.declared.subset.SubsetRead.{SubsetRead}
-use Rattle.reader.specs.declared.subset.SubsetRead.TheVariants as subset-read
 use Rattle.reader.specs.declared.plan.Plan.{Plan}
-use Rattle.reader.specs.declared.plan.PlanRead.TheVariants as plan-read
-use Rattle.reader.specs.Steps.{Small, step_of, Stands, subsets_in, PartsStand, SubsetReads, SubsetReadIf, subset_refusal, MaskOf, blocks, BlocksRead}
-use Rattle.reader.proofs.Skipping.{step-got, step-ret}
+use Rattle.reader.specs.Steps.{step_of, Stands, subsets_in, PartsStand, SubsetReadIf, MaskOf, blocks, BlocksRead}
+use Rattle.reader.proofs.Skipping.{Step, step-got, step-ret}
 use Rattle.reader.proofs.SubsetParts.{no-parts}
 
 -- ---- one that may be missing
-pub step-absent : {A : Type 0} (p : Parser A) (bs : List Bool) (place : ℕ) {flag : Bool} → flag ≡ false → step.At place ≡ step_of (optional flag p bs place)
+pub step-absent : {A : Type 0} (p : Parser A) (bs : List Bool) (place : ℕ) {flag : Bool} → flag ≡ false → Ok place ≡ step_of (optional flag p bs place)
 unfolding ret
 step-absent p bs place e = rw e
 
 pub step-there : {A : Type 0} (p : Parser A) (bs : List Bool) (place : ℕ) {flag : Bool} {s : Step} → flag ≡ true → s ≡ step_of (p bs place) → s ≡ step_of (optional flag p bs place)
 step-there p bs place e f = rw e (f ∙ sym (step-ret bs p some place))
 
--- an item of the orbit block has small fields
-pub small-orbit : (id : ℕ) {a : ℕ} → a ≡ iod_bits id → Small (record { a = a; b = 13; c = 12; d = 12 })
-small-orbit id e = record { a = omega (arith, e, iod-le id); b = omega arith; c = omega arith; d = omega arith }
-
 -- ---- a block that may be missing
 pub record Passed {A : Type 0} (flag : Bool) (p : Parser A) (enc : A → List Bool) (bs : List Bool) (place : ℕ) (x : Option (Block A)) (end : ℕ) : Type 0 where
   pub read : optional flag (block p) bs place ≡ got x end
-  pub stands : Stands bs (cond flag place 0) (block_bits enc) x
+  pub stands : Stands bs (then_some flag place) (block_bits enc) x
   pub ahead : 0 < end
   pub fits : end ≤ length bs
 
-pub passed : {A : Type 0} {p : Parser A} {Ok : A → Type 0} {enc : A → List Bool} (flag : Bool) (bs : List Bool) {place end : ℕ} → Reads p Ok enc → 0 < place → place ≤ length bs
+pub passed : {A : Type 0} {p : Parser A} {Good : A → Type 0} {enc : A → List Bool} (flag : Bool) (bs : List Bool) {place end : ℕ} → Reads p Good enc → 0 < place → place ≤ length bs
     → (x : Option (Block A)) → optional flag (block p) bs place ≡ got x end → Passed flag p enc bs place x end
 unfolding ◌>>=◌ ret
 passed {p = p} true bs {place} {end} P h l x e = next-elim (block p bs place) _ e λ b m q r.
     let s = ((block_reads P).sound bs place b m l q).span in
     let t : x ≡ some b = cc in
     let u : end ≡ m = cc in
-    record { read = e; stands = rw t (h, (m, s)); ahead = omega (arith, h, u, s.after); fits = omega (arith, u, s.fits) }
+    record { read = e; stands = rw t (place, refl, (m, s)); ahead = omega (arith, h, u, s.after); fits = omega (arith, u, s.fits) }
 passed {p = p} false bs {place} {end} P h l x e =
     let t : x ≡ none = cc in
     let u : end ≡ place = cc in
     record { read = e; stands = rw t refl; ahead = omega (arith, h, u); fits = omega (arith, u, l) }
 
 -- one that is passed over by a step
-pub stepped : {A : Type 0} {p : Parser A} {Ok : A → Type 0} {enc : A → List Bool} (flag : Bool) (bs : List Bool) {place end : ℕ} → Reads p Ok enc → 0 < place → place ≤ length bs
-    → step_of (optional flag (block p) bs place) ≡ step.At end → (x : Option (Block A)) × Passed flag p enc bs place x end
-stepped {p = p} flag bs P h l e = step-got (optional flag (block p) bs _) e λ x q. (x, passed flag bs P h l x q)
+pub stepped : {A : Type 0} {p : Parser A} {Good : A → Type 0} {enc : A → List Bool} (flag : Bool) (bs : List Bool) {place end : ℕ} → Reads p Good enc → 0 < place → place ≤ length bs
+    → Ok end ≡ step_of (optional flag (block p) bs place) → (x : Option (Block A)) × Passed flag p enc bs place x end
+stepped {p = p} flag bs P h l e = step-got (optional flag (block p) bs _) (sym e) λ x q. (x, passed flag bs P h l x q)
 
 -- the subset, with its parts
-subset-refused : {m : ℕ} {plan : SubsetPlan} {r : RefusalAt} → subset-read.Got plan m ≡ subset-read.Refused r → ⊥
-subset-refused e = let z : ◌≡◌ {A = ℕ} 0 1 = cc in omega arith
-
-pub parts-got : (flag : Bool) (ss : List System) (bs : List Bool) {place end : ℕ} {plan : SubsetPlan} → Masked ss → 0 < place → place ≤ length bs
-    → SubsetReadIf flag ss bs place (subset-read.Got plan end) → (x : Option (Block (List Subset))) × Passed flag (subset ss) subsets_bits bs place x end × PartsStand bs ss (subsets_in x) plan
+pub parts-got : (flag : Bool) (ss : List System) (bs : List Bool) {place : ℕ} {read : Read SubsetPlan} → Masked ss → 0 < place → place ≤ length bs
+    → SubsetReadIf flag ss bs place (Ok read) → (x : Option (Block (List Subset))) × Passed flag (subset ss) subsets_bits bs place x read.end × PartsStand bs ss (subsets_in x) read.plan
 unfolding ◌>>=◌ ret
 parts-got true ss bs M h l (b, e, t) = (some b, passed true bs (subset-reads ss M) h l (some b) (rw e), t)
-parts-got false ss bs {place} {end} {plan} M h l e =
-    let t : plan ≡ record { first = 0; second = 0 } = cc in
-    let u : end ≡ place = cc in
+parts-got false ss bs {place} {read} M h l e =
+    let t : read.plan ≡ record { first = None; second = None } = cc in
+    let u : read.end ≡ place = cc in
     (none, passed false bs (subset-reads ss M) h l none (rw u), rw t (no-parts ss))
 
-pub parts-refused : (flag : Bool) (ss : List System) (bs : List Bool) (place : ℕ) {s : SubsetRead} {r q : RefusalAt}
-    → SubsetReadIf flag ss bs place s → s ≡ subset-read.Refused q → r ≡ subset_refusal s → optional flag (block (subset ss)) bs place ≡ bad r
+pub parts-refused : (flag : Bool) (ss : List System) (bs : List Bool) (place : ℕ) {r : RefusalAt} → SubsetReadIf flag ss bs place (Err r) → optional flag (block (subset ss)) bs place ≡ bad r
 unfolding ◌>>=◌ ret
-parts-refused true ss bs place {r = r} {q} e f g = let d : r ≡ q = g ∙ ap subset_refusal f in rw (d, subst (SubsetReads ss bs place) f e)
-parts-refused false ss bs place e f g = absurd (subset-refused (sym e ∙ f))
+parts-refused true ss bs place e = rw e
+parts-refused false ss bs place e = absurd (let z : ◌≡◌ {A = ℕ} 0 1 = cc in omega arith)
 
 pub masked : {ss : List System} {place : ℕ} {plan : MaskPlan} → MaskOf ss place plan → Masked ss
 masked k = record { few = k.few; ids = k.differ; systems = k.each }
@@ -124,6 +114,28 @@ module _ (h : Header) (own : Option Mask) (ss : List System) (bs : List Bool) (p
           pub bad-phases : {r : RefusalAt} → flagged bs 17 (phases ss) bs d ≡ bad r → blocks h own ss bs place ≡ bad r
           bad-phases e = at-phases ∙ rw e
 
+-- ---- each block that is passed over, behind those before it
+module _ {ss : List System} {k : ℕ} {mask : MaskPlan} (o : MaskOf ss k mask) (bs : List Bool) {at : ℕ} (ahead : 0 < at) (fits : at ≤ length bs) where
+  module _ {a : ℕ} (e1 : Ok a ≡ step_of (flagged bs 13 (orbits ss) bs at)) where
+    pub orbits-passed : (x : Option (Block (List (List Orbit)))) × Passed (get_or bs 13 false) (orbits ss) (orbits_bits ss) bs at x a
+    orbits-passed = stepped (get_or bs 13 false) bs (orbits-reads ss) ahead fits e1
+
+    module _ {b : ℕ} (e2 : Ok b ≡ step_of (flagged bs 14 (clocks ss) bs a)) where
+      pub clocks-passed : (x : Option (Block Clocks)) × Passed (get_or bs 14 false) (clocks ss) clocks_bits bs a x b
+      clocks-passed = stepped (get_or bs 14 false) bs (clocks-reads ss) orbits-passed.1.ahead orbits-passed.1.fits e2
+
+      module _ (read : Read SubsetPlan) (e3 : SubsetReadIf (get_or bs 15 false) ss bs b (Ok read)) where
+        pub subset-passed : (x : Option (Block (List Subset))) × Passed (get_or bs 15 false) (subset ss) subsets_bits bs b x read.end × PartsStand bs ss (subsets_in x) read.plan
+        subset-passed = parts-got (get_or bs 15 false) ss bs (masked o) clocks-passed.1.ahead clocks-passed.1.fits e3
+
+        module _ {d : ℕ} (e4 : Ok d ≡ step_of (flagged bs 16 (codes ss) bs read.end)) where
+          pub codes-passed : (x : Option (Block (List (List ℕ)))) × Passed (get_or bs 16 false) (codes ss) codes_bits bs read.end x d
+          codes-passed = stepped (get_or bs 16 false) bs (codes-reads ss) (subset-passed).1.ahead (subset-passed).1.fits e4
+
+          module _ {end : ℕ} (e5 : Ok end ≡ step_of (flagged bs 17 (phases ss) bs d)) where
+            pub phases-passed : (x : Option (Block (List (List Phase)))) × Passed (get_or bs 17 false) (phases ss) phases_bits bs d x end
+            phases-passed = stepped (get_or bs 17 false) bs (phases-reads ss) codes-passed.1.ahead codes-passed.1.fits e5
+
 -- what is passed over stands where the plan says
 pub planned : (h : Header) (own : Option Mask) (ss : List System) (bs : List Bool) (place : ℕ) → h.flags ≡ take 6 (drop 12 bs)
     → (os : Option (Block (List (List Orbit)))) (cs : Option (Block Clocks)) (sub : Option (Block (List Subset))) (xs : Option (Block (List (List ℕ)))) (ps : Option (Block (List (List Phase)))) (plan : Plan)
@@ -131,8 +143,8 @@ pub planned : (h : Header) (own : Option Mask) (ss : List System) (bs : List Boo
     → Passed (get_or bs 15 false) (subset ss) subsets_bits bs b sub c × PartsStand bs ss (subsets_in sub) plan.parts → Passed (get_or bs 16 false) (codes ss) codes_bits bs c xs d
     → Passed (get_or bs 17 false) (phases ss) phases_bits bs d ps end
     → {f g i j k : Bool} → f ≡ get_or bs 13 false → g ≡ get_or bs 14 false → i ≡ get_or bs 15 false → j ≡ get_or bs 16 false → k ≡ get_or bs 17 false
-    → plan.orbit ≡ cond f place 0 → plan.clock ≡ cond g a 0 → plan.subset ≡ cond i b 0 → plan.code ≡ cond j c 0 → plan.phase ≡ cond k d 0
-    → BlocksRead h own ss bs place plan.lent plan.mask (plan-read.Got plan)
+    → plan.orbit ≡ then_some f place → plan.clock ≡ then_some g a → plan.subset ≡ then_some i b → plan.code ≡ then_some j c → plan.phase ≡ then_some k d
+    → BlocksRead h own ss bs place plan.lent plan.mask (Ok plan)
 planned h own ss bs place fl os cs sub xs ps plan {end = end} P Q (R, t) S T f g i j k o u v w x = (
   record { header = h; mask = own; orbits = os; clocks = cs; subset = sub; codes = xs; phases = ps },
   end,

@@ -4,30 +4,43 @@ use Prim.Native.Nat.{ℕ, ◌/◌, ◌%◌, ◌^◌}
 use mathlib.Core.List.{List, [], ◌∷◌, ◌++◌}
 use mathlib.Core.Option.{Option}
 use mathlib.Core.Bool.{Bool}
-use mathlib.Core.Path.{◌≡◌, ap₂, ◌∙◌}
+use mathlib.Core.Path.{◌≡◌, refl, ◌∙◌}
+use native.Mathlib.Omega.{arith}
+use lib.ListN.{length, get_or}
 use Rattle.bits.specs.Bits.{bits, value, octets_of}
 use Rattle.mt1.specs.Message.{System, Message}
 use Rattle.mt1.specs.Records.{two, part, body, octet_or, iod_or, signed_or, interval_of, multiplier_of, of_system, subset_of, subset_clock, header_record, system_record, satellite_record, cell_record}
-use Rattle.reader.specs.Steps.{Stands}
+use Rattle.reader.specs.Steps.{Place, Stands}
 use Rattle.reader.specs.Recording.{Below}
 use Rattle.reader.proofs.RowValues.{Value}
 
+-- a list of two
+pub pair-of : (r : List ℕ) → length r ≡ 2 → get_or r 0 0 ∷ get_or r 1 0 ∷ [] ≡ r
+pair-of [] l = absurd (let z : ⊥ = omega arith in z)
+pair-of (a ∷ []) l = absurd (let z : ⊥ = omega arith in z)
+pair-of (a ∷ b ∷ []) l = refl
+pair-of (a ∷ b ∷ c ∷ r) l = absurd (let z : ⊥ = omega arith in z)
+
 -- ---- a value that is read where it stands, as what is recorded of it
-module _ (bs : List Bool) (n : ℕ) (v : Option ℕ) {q place : ℕ} (here : q ≡ place) (x : Value bs place n v) where
+module _ (bs : List Bool) (n : ℕ) (v : Option ℕ) {q place : Place} (here : q ≡ place) (x : Value bs place n v) where
   pub one-octet : {r : ℕ} → ((u : Option ℕ) → Stands bs q (bits n) u → Below (2 ^ n) u → r ≡ octet_or u) → r ≡ octet_or v
   one-octet f = f v (rw here x.0) x.1
 
-  pub two-octets : (recorded : Option ℕ → List ℕ) (r : ℕ) {h l : ℕ} → ((u : Option ℕ) → Stands bs q (bits n) u → Below (2 ^ n) u → two r ≡ recorded u)
-      → h ≡ r / 256 → l ≡ r % 256 → h ∷ l ∷ [] ≡ recorded v
-  two-octets recorded r f e g = ap₂ {C = List ℕ} (λ (a b : ℕ). a ∷ b ∷ []) e g ∙ f v (rw here x.0) x.1
+  pub two-octets : (recorded : Option ℕ → List ℕ) {r : List ℕ} → length r ≡ 2 → ((u : Option ℕ) → Stands bs q (bits n) u → Below (2 ^ n) u → r ≡ recorded u)
+      → get_or r 0 0 ∷ get_or r 1 0 ∷ [] ≡ recorded v
+  two-octets recorded {r} l f = pair-of r l ∙ f v (rw here x.0) x.1
 
 -- ---- the records
-pub header-octets : (m : Message) {flags id set orbit clock subset code phase time h l : ℕ}
-    → flags ≡ value m.header.flags → id ≡ m.header.mask_id → set ≡ m.header.iod_set → time ≡ m.header.time → h ≡ time / 256 → l ≡ time % 256
+pub header-octets : (m : Message) {flags id set orbit clock subset code phase : ℕ} {time : List ℕ}
+    → flags ≡ value m.header.flags → id ≡ m.header.mask_id → set ≡ m.header.iod_set → length time ≡ 2 → time ≡ two m.header.time
     → orbit ≡ interval_of m.orbits → clock ≡ interval_of m.clocks → subset ≡ interval_of m.subset → code ≡ interval_of m.codes → phase ≡ interval_of m.phases
-    → 1 ∷ flags ∷ id ∷ set ∷ h ∷ l ∷ orbit ∷ clock ∷ subset ∷ code ∷ phase ∷ 0 ∷ 0 ∷ 0 ∷ 0 ∷ 0 ∷ [] ≡ header_record m
+    → 1 ∷ flags ∷ id ∷ set ∷ get_or time 0 0 ∷ get_or time 1 0 ∷ orbit ∷ clock ∷ subset ∷ code ∷ phase ∷ 0 ∷ 0 ∷ 0 ∷ 0 ∷ 0 ∷ [] ≡ header_record m
 unfolding header_record
-header-octets m a b c d e f g h i j k = rw (a, b, c, e, f, d, g, h, i, j, k)
+header-octets m {time = time} a b c l d g h i j k =
+    let t = pair-of time l ∙ d in
+    let t0 : get_or time 0 0 ≡ m.header.time / 256 = cc in
+    let t1 : get_or time 1 0 ≡ m.header.time % 256 = cc in
+    rw (a, b, c, t0, t1, g, h, i, j, k)
 
 pub system-octets : (m : Message) (p : ℕ) (s : System) {id flag navigation multiplier subset : ℕ} {satellites signals : List ℕ}
     → id ≡ s.id → flag ≡ s.cell_flag → navigation ≡ s.navigation

@@ -16,7 +16,7 @@ use Rattle.mt1.specs.Mt1.{iod_bits}
 use Rattle.mt1.specs.Encode.{orbit_bits, phase_bits}
 use Rattle.mt1.specs.Valid.{OrbitOk, PhaseOk}
 use Rattle.mt1.specs.Records.{part, body, of_system}
-use Rattle.reader.specs.Steps.{Stands}
+use Rattle.reader.specs.Steps.{Place, Stands}
 use Rattle.reader.specs.Recording.{IfSome, onwards, RowsStand}
 use Rattle.reader.proofs.RowValues.{Value, onwards-onwards, first, last, item}
 
@@ -43,13 +43,13 @@ unfolding phase_bits
 phase-width f = omega (arith, length-append (bits 11 f.bias) (bits 2 f.discontinuity), length-bits 11 f.bias, length-bits 2 f.discontinuity)
 
 -- ---- an orbit's fields
-pub record OrbitValues (bs : List Bool) (place w : ℕ) (o : Option Orbit) : Type 0 where
+pub record OrbitValues (bs : List Bool) (place : Place) (w : ℕ) (o : Option Orbit) : Type 0 where
   pub iod : Value bs place w (part (λ x. x.iod) o)
   pub radial : Value bs (onwards place w) 13 (part (λ x. x.radial) o)
   pub in_track : Value bs (onwards place (w + 13)) 12 (part (λ x. x.in_track) o)
   pub cross_track : Value bs (onwards place (w + 25)) 12 (part (λ x. x.cross_track) o)
 
-orbit-values : (bs : List Bool) (id place : ℕ) (o : Option Orbit) → IfSome (OrbitOk id) o → Stands bs place (orbit_bits id) o → OrbitValues bs place (iod_bits id) o
+orbit-values : (bs : List Bool) (id : ℕ) (place : Place) (o : Option Orbit) → IfSome (OrbitOk id) o → Stands bs place (orbit_bits id) o → OrbitValues bs place (iod_bits id) o
 unfolding orbit_bits
 orbit-values bs id place o k s =
     let w = iod_bits id in
@@ -65,11 +65,11 @@ orbit-values bs id place o k s =
     }
 
 -- ---- a phase's
-pub record PhaseValues (bs : List Bool) (place : ℕ) (f : Option Phase) : Type 0 where
+pub record PhaseValues (bs : List Bool) (place : Place) (f : Option Phase) : Type 0 where
   pub bias : Value bs place 11 (part (λ x. x.bias) f)
   pub discontinuity : Value bs (onwards place 11) 2 (part (λ x. x.discontinuity) f)
 
-phase-values : (bs : List Bool) (place : ℕ) (f : Option Phase) → IfSome PhaseOk f → Stands bs place phase_bits f → PhaseValues bs place f
+phase-values : (bs : List Bool) (place : Place) (f : Option Phase) → IfSome PhaseOk f → Stands bs place phase_bits f → PhaseValues bs place f
 unfolding phase_bits
 phase-values bs place f k s =
     let a = first bs PhaseOk (λ x. x.bias) 11 (λ x h. h.bias) place (λ x. bits 2 x.discontinuity) f k s in

@@ -7,7 +7,7 @@ use native.Mathlib.Omega.{arith}
 use mathlib.Core.Bool.{Bool}
 use mathlib.Core.List.{List, [], ◌∷◌, ◌++◌}
 use mathlib.Core.Option.{Option, none, some, some-injective, none-ne-some}
-use mathlib.Core.Path.{◌≡◌, refl, sym, ap, ◌∙◌}
+use mathlib.Core.Path.{◌≡◌, refl, ap, ◌∙◌}
 use lib.ListN.{length, get_or, take}
 use Rattle.bits.specs.Bits.{bits}
 use Rattle.bits.proofs.Values.{length-bits}
@@ -19,14 +19,15 @@ use Rattle.mt1.specs.Records.{at, body, multiplier_of}
 use Rattle.mt1.proofs.Spans.{Span, span-split, span-each, length-each}
 use Rattle.mt1.proofs.Several.{each_of_lem}
 use Rattle.mt1.proofs.Elements.{at_there, at-get_or, every_some, each_at}
-use Rattle.reader.specs.Steps.{Stands}
+use Rattle.std.specs.Prelude.{Some, None}
+use Rattle.reader.specs.Steps.{Place, Stands}
 use Rattle.reader.specs.Recording.{row, IfSome, Below, onwards}
 use Rattle.reader.proofs.RowValues.{further}
 use Rattle.reader.proofs.RowFields.{orbit-width, phase-width}
 
 -- ---- places further on
-onwards-zero : (place n : ℕ) → place ≡ 0 → onwards place n ≡ 0
-onwards-zero place n e = rw e
+onwards-none : (place : Place) (n : ℕ) → place ≡ None → onwards place n ≡ None
+onwards-none place n e = rw e
 
 -- what so much of a string is behind
 unfoldable pub total : (System → ℕ) → List System → ℕ
@@ -59,26 +60,25 @@ module _ {A : Type 0} (n k : System → ℕ) (Q : System → A → Type 0) (g : 
 
   module _ (bs : List Bool) (ss : List System) (p : ℕ) {s : System} (here : at ss p ≡ some s) where
     -- behind an interval and what else stands before them
-    some-row : (rows : List (List A)) (pre : List Bool) (place interval end m : ℕ) → EachOf (λ t. Row (n t) (Q t)) ss rows
-        → 0 < place → Span bs place (bits 4 interval ++ (pre ++ each_of (λ t. each (g t)) ss rows)) end → length pre ≡ m
+    some-row : (rows : List (List A)) (pre : List Bool) (place : Place) (q interval end m : ℕ) → EachOf (λ t. Row (n t) (Q t)) ss rows
+        → place ≡ Some q → Span bs q (bits 4 interval ++ (pre ++ each_of (λ t. each (g t)) ss rows)) end → length pre ≡ m
         → Stands bs (onwards place (4 + m + total (λ t. n t * k t) (take p ss))) (each (g s)) (some (get_or rows p [])) × Row (n s) (Q s) (get_or rows p [])
-    some-row rows pre place interval end m f h sp e =
+    some-row rows pre place q interval end m f h sp e =
         let w : ℕ = total (λ t. n t * k t) (take p ss) in
         let x = row_at ss rows p here f (span-split pre _ (span-split (bits 4 interval) _ sp).1).1 in
-        let j : place + length (bits 4 interval) + length pre + w ≡ place + (4 + m + w) = omega (arith, length-bits 4 interval, e) in
-        let i : place + length (bits 4 interval) + length pre + w ≡ onwards place (4 + m + w) = j ∙ sym (further place (4 + m + w) h) in
-        ((omega (arith, further place (4 + m + w) h), (x.0, rw (← i) x.1)), each_at (λ t. Row (n t) (Q t)) [] ss rows p f here)
+        let j : q + length (bits 4 interval) + length pre + w ≡ q + (4 + m + w) = omega (arith, length-bits 4 interval, e) in
+        ((q + (4 + m + w), further (4 + m + w) h, (x.0, rw (← j) x.1)), each_at (λ t. Row (n t) (Q t)) [] ss rows p f here)
 
     block_row : (h : List (List A) → List Bool) → ((rows : List (List A)) → EachOf (λ t. Row (n t) (Q t)) ss rows → each_of (λ t. each (g t)) ss rows ≡ h rows)
-        → (place : ℕ) (b : Option (Block (List (List A)))) → IfSome (BlockOk (EachOf (λ t. Row (n t) (Q t)) ss)) b → Stands bs place (block_bits h) b
+        → (place : Place) (b : Option (Block (List (List A)))) → IfSome (BlockOk (EachOf (λ t. Row (n t) (Q t)) ss)) b → Stands bs place (block_bits h) b
         → Stands bs (onwards place (4 + 0 + total (λ t. n t * k t) (take p ss))) (each (g s)) (row b p) × IfSome (Row (n s) (Q s)) (row b p)
     unfolding block_bits
-    block_row h is place none o st = (onwards-zero place _ st, tt)
+    block_row h is place none o st = (onwards-none place _ st, tt)
     block_row h is place (some b) o st =
-        some-row b.body [] place b.interval st.1.0 0 o.body st.0 (rw (is b.body o.body) st.1.1) refl
+        some-row b.body [] place st.0 b.interval st.2.0 0 o.body st.1 (rw (is b.body o.body) st.2.1) refl
 
 -- ---- the blocks
-module _ (bs : List Bool) (ss : List System) (p : ℕ) {s : System} (here : at ss p ≡ some s) (place : ℕ) where
+module _ (bs : List Bool) (ss : List System) (p : ℕ) {s : System} (here : at ss p ≡ some s) (place : Place) where
   pub orbit-row : (b : Option (Block (List (List Orbit)))) → IfSome (BlockOk (OrbitsOk ss)) b → Stands bs place (block_bits (orbits_bits ss)) b
       → Stands bs (onwards place (4 + 0 + total (λ t. count t.satellites * (iod_bits t.id + 37)) (take p ss))) (each (orbit_bits s.id)) (row b p)
       × IfSome (Row (count s.satellites) (OrbitOk s.id)) (row b p)
@@ -108,23 +108,23 @@ module _ (bs : List Bool) (ss : List System) (p : ℕ) {s : System} (here : at s
       → Stands bs (onwards place (4 + 2 * length ss + total (λ t. count t.satellites * 13) (take p ss))) (each (bits 13)) (row (body (λ c. c.clocks) b) p)
       × IfSome (Row (count s.satellites) (λ v. v < 2 ^ 13)) (row (body (λ c. c.clocks) b) p)
   unfolding block_bits clocks_bits
-  clock-row none o st = (onwards-zero place _ st, tt)
+  clock-row none o st = (onwards-none place _ st, tt)
   clock-row (some b) o st =
       let c = b.body in
       let k = o.body in
       let e = each_of_lem (λ t. Row (count t.satellites) (λ v. v < 2 ^ 13)) (each (bits 13)) ss c.clocks k.clocks in
       some-row (λ t. count t.satellites) (λ t. 13) (λ t v. v < 2 ^ 13) (λ t. bits 13) (λ t. length-bits 13) bs ss p here
-      c.clocks (each (bits 2) c.multipliers) place b.interval st.1.0 (2 * length ss) k.clocks st.0 (rw e st.1.1)
+      c.clocks (each (bits 2) c.multipliers) place st.0 b.interval st.2.0 (2 * length ss) k.clocks st.1 (rw e st.2.1)
       (length-each (bits 2) 2 (length-bits 2) c.multipliers ∙ ap (λ (l : ℕ). 2 * l) k.multipliers.0)
 
   pub multiplier-at : p < length ss → (b : Option (Block Clocks)) → IfSome (BlockOk (ClocksOk ss)) b → Stands bs place (block_bits clocks_bits) b
       → Stands bs (onwards place (4 + 2 * p)) (bits 2) (multiplier_of b p) × Below (2 ^ 2) (multiplier_of b p)
   unfolding block_bits clocks_bits
-  multiplier-at h none o st = (onwards-zero place (4 + 2 * p) st, tt)
+  multiplier-at h none o st = (onwards-none place (4 + 2 * p) st, tt)
   multiplier-at h (some b) o st =
       let ms = b.body.multipliers in
       let k = o.body.multipliers in
       let (v, e) = at_there ms p (omega (arith, k.0)) in
-      let sp = span-each (bits 2) 0 ms p (span-split (each (bits 2) ms) _ (span-split (bits 4 b.interval) _ st.1.1).1).0 (length-bits 2) (omega (arith, k.0)) in
-      let j : place + length (bits 4 b.interval) + 2 * p ≡ onwards place (4 + 2 * p) = omega (arith, length-bits 4 b.interval, further place (4 + 2 * p) st.0) in
-      rw e ((omega (arith, further place (4 + 2 * p) st.0), (_, rw (j, at-get_or 0 ms p e) at sp)), every_some (λ m. m < 2 ^ 2) ms p e k.1)
+      let sp = span-each (bits 2) 0 ms p (span-split (each (bits 2) ms) _ (span-split (bits 4 b.interval) _ st.2.1).1).0 (length-bits 2) (omega (arith, k.0)) in
+      let j : st.0 + length (bits 4 b.interval) + 2 * p ≡ st.0 + (4 + 2 * p) = omega (arith, length-bits 4 b.interval) in
+      rw e ((st.0 + (4 + 2 * p), further (4 + 2 * p) st.1, (_, rw (j, at-get_or 0 ms p e) at sp)), every_some (λ m. m < 2 ^ 2) ms p e k.1)

@@ -5,9 +5,10 @@ use mathlib.Core.Path.{◌≡◌, sym, ◌∙◌}
 use Prim.Native.Nat.{ℕ}
 use Rattle.mt1.specs.Parse.{Outcome}
 use Rattle.mt1.specs.Message.{Message}
-use Rattle.reader.specs.declared.reading.ReadAnswer.{ReadAnswer}
+use Rattle.std.specs.Prelude.{Result}
+use Rattle.mt1.specs.declared.answer.RefusalAt.{RefusalAt}
 use Rattle.reader.specs.Reader.{Call, Reads}
 
-pub one-reading : (how : Call → Outcome Message) (c : Call) (before : List ℕ) (a a' : ReadAnswer) (after after' : List ℕ) → Reads how c before a after → Reads how c before a' after'
+pub one-reading : (how : Call → Outcome Message) (c : Call) (before : List ℕ) (a a' : Result ℕ RefusalAt) (after after' : List ℕ) → Reads how c before a after → Reads how c before a' after'
     → (a ≡ a') × (after ≡ after')
 one-reading how c before a a' after after' r r' = (r.answered ∙ sym r'.answered, r.buffer ∙ sym r'.buffer)

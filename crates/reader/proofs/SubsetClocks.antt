@@ -16,12 +16,13 @@ use Rattle.mt1.specs.Records.{part, subset_clock}
 use Rattle.mt1.proofs.Spans.{Span, span-split, span-each}
 use Rattle.mt1.proofs.Elements.{at-is}
 use Rattle.mt1.proofs.Counts.{before-lt}
-use Rattle.reader.specs.Steps.{Stands, part_bits}
+use Rattle.std.specs.Prelude.{Some, None}
+use Rattle.reader.specs.Steps.{Place, Stands, part_bits}
 use Rattle.reader.specs.Recording.{Below, PartOk, SubsetFits, chosen_before}
 use Rattle.reader.proofs.InMask.{at_every}
-use Rattle.reader.proofs.RowValues.{Value, bit-read, first}
+use Rattle.reader.proofs.RowValues.{Value, nowhere, stands-there, bit-read, first}
 
-pub multiplier-here : (bs : List Bool) (place k : ℕ) (o : Option Subset) → SubsetFits k o → Stands bs place part_bits o → Value bs place 2 (part (λ x. x.multiplier) o)
+pub multiplier-here : (bs : List Bool) (place : Place) (k : ℕ) (o : Option Subset) → SubsetFits k o → Stands bs place part_bits o → Value bs place 2 (part (λ x. x.multiplier) o)
 unfolding part_bits
 multiplier-here bs place k o h s = (first bs (PartOk k) (λ x. x.multiplier) 2 (λ x p. p.multiplier) place (λ x. x.chosen ++ each (bits 13) x.clocks) o h s).0
 
@@ -34,7 +35,7 @@ clock-below k n (some s) h =
     (λ e. rw e tt)
 
 -- the three ways of the code: no part, a satellite that is chosen, one that is not
-pub no_part : (bs : List Bool) (n : ℕ) (o : Option Subset) → o ≡ none → Stands bs 0 (bits 13) (subset_clock o n)
+pub no_part : (bs : List Bool) (n : ℕ) (o : Option Subset) → o ≡ none → Stands bs None (bits 13) (subset_clock o n)
 unfolding subset_clock
 no_part bs n o e = rw e
 
@@ -50,19 +51,21 @@ module _ (bs : List Bool) (place satellites n : ℕ) (h : n < satellites) where
     clocks-span : Span bs (place + 2 + satellites) (each (bits 13) s.clocks) end
     clocks-span = rw k.chosen at (span-split s.chosen (each (bits 13) s.clocks) behind-two).1
 
-  pub chosen-clock : (o : Option Subset) (k : ℕ) → (place ≡ 0 → ⊥) → get_or bs (place + 2 + n) false ≡ true
-      → Stands bs place part_bits o → SubsetFits satellites o → k ≡ chosen_before o n → Stands bs (place + 2 + satellites + 13 * k) (bits 13) (subset_clock o n)
+  pub chosen-clock : {part : Place} (o : Option Subset) (k : ℕ) → part ≡ Some place → get_or bs (place + 2 + n) false ≡ true
+      → Stands bs part part_bits o → SubsetFits satellites o → k ≡ chosen_before o n → Stands bs (Some (place + 2 + satellites + 13 * k)) (bits 13) (subset_clock o n)
   unfolding subset_clock chosen_before
-  chosen-clock none k d b s f e = absurd (d s)
+  chosen-clock none k d b s f e = absurd (nowhere (sym s ∙ d))
   chosen-clock (some x) k d b s f e =
-      let g : get_or x.chosen n false ≡ true = sym (is-chosen x f s.1.1) ∙ b in
+      let t = stands-there part_bits x d s in
+      let g : get_or x.chosen n false ≡ true = sym (is-chosen x f t.1) ∙ b in
       let i : k < length x.clocks = omega (arith, e, before-lt x.chosen n g, f.clocks.0) in
-      let q : 0 < place + 2 + satellites + 13 * k = omega arith in
-      rw (g, ← e, at-is 0 x.clocks k i) (q, (_, span-each (bits 13) 0 x.clocks k (clocks-span x f s.1.1) (length-bits 13) i))
+      rw (g, ← e, at-is 0 x.clocks k i) (place + 2 + satellites + 13 * k, refl, (_, span-each (bits 13) 0 x.clocks k (clocks-span x f t.1) (length-bits 13) i))
 
-  pub other-clock : (o : Option Subset) → get_or bs (place + 2 + n) false ≡ false → Stands bs place part_bits o → SubsetFits satellites o → Stands bs 0 (bits 13) (subset_clock o n)
+  pub other-clock : {part : Place} (o : Option Subset) → part ≡ Some place → get_or bs (place + 2 + n) false ≡ false → Stands bs part part_bits o → SubsetFits satellites o
+      → Stands bs None (bits 13) (subset_clock o n)
   unfolding subset_clock
-  other-clock none b s f = refl
-  other-clock (some x) b s f =
-      let g : get_or x.chosen n false ≡ false = sym (is-chosen x f s.1.1) ∙ b in
+  other-clock none d b s f = refl
+  other-clock (some x) d b s f =
+      let t = stands-there part_bits x d s in
+      let g : get_or x.chosen n false ≡ false = sym (is-chosen x f t.1) ∙ b in
       rw g

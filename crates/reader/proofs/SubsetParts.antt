@@ -1,15 +1,16 @@
 -- One or two parts of a clock subset, one behind another: what the parser of the subset reads, and where each system's part stands.
 -- A part that is added is of one of the mask's systems and of no part before it; the others stand where they stood.
-use Prim.Native.Nat.{ℕ, zero, suc, ◌^◌, ◌≤◌, ◌<◌}
+use Prim.Native.Nat.{ℕ, zero, suc, ◌≤◌, ◌<◌}
 use native.Mathlib.Omega.{arith}
 use mathlib.Core.Bool.{Bool, true, false, cond, false≢true}
 use mathlib.Core.List.{List, [], ◌∷◌, ◌++◌, map}
-use mathlib.Core.Logic.{◌⊎◌}
+use mathlib.Core.Logic.{◌⊎◌, ∥∥₁_elim}
+use native.Mathlib.Bridge.{le_prop}
 use mathlib.Core.Option.{Option, none, some}
 use mathlib.Core.Path.{◌≡◌, refl, sym, ap, ◌∙◌}
 use lib.Dec.{eqb}
 use lib.ListN.{length}
-use borrow.Author.Tests.{eqb-true, eq-eqb, ne_eqb}
+use borrow.Author.Tests.{eqb-true, eq-eqb}
 use Rattle.lists.specs.Lists.{memb}
 use Rattle.lists.proofs.Tests.{on_bool, clash}
 use Rattle.refusal.specs.declared.Refusal.TheVariants as refusal
@@ -21,17 +22,14 @@ use Rattle.mt1.specs.Records.{at as nth, of_id}
 use Rattle.mt1.specs.Valid.{IdsOk}
 use Rattle.mt1.proofs.Spans.{Span}
 use Rattle.mt1.proofs.Combinators.{next-elim, judged-reads}
-use Rattle.mt1.proofs.Several.{wrong-none, memb-every}
-use Rattle.mt1.proofs.Blocks.{ids-small}
-use Rattle.reader.specs.declared.field.Step.TheVariants as step
+use Rattle.mt1.proofs.Several.{wrong-none}
 use Rattle.reader.specs.declared.mask.MaskPlan.{MaskPlan}
 use Rattle.reader.specs.declared.subset.SubsetPlan.{SubsetPlan}
-use Rattle.reader.specs.declared.subset.PartRead.{PartRead}
-use Rattle.reader.specs.declared.subset.PartRead.TheVariants as part-read
-use Rattle.reader.specs.declared.subset.SubsetRead.{SubsetRead}
-use Rattle.reader.specs.declared.subset.SubsetRead.TheVariants as subset-read
-use Rattle.reader.specs.Steps.{step_of, mask_plan, MaskOf, Stands, part_bits, chain, part_of, with_part, PartReads, part_refusal, PartsStand, PartsRead, SubsetReads}
-use Rattle.reader.proofs.Fields.{judged-same, counted-bad, counted-wrong, counted-fine}
+use Rattle.reader.specs.declared.subset.Part.{Part}
+use Rattle.reader.specs.declared.field.Read.{Read}
+use Rattle.std.specs.Prelude.{Some, None, Result, Ok, Err}
+use Rattle.reader.specs.Steps.{step_of, mask_plan, MaskOf, MaskMade, Place, Stands, part_bits, chain, part_of, with_part, PartReads, PartsStand, PartsRead, SubsetReads}
+use Rattle.reader.proofs.Fields.{counted-bad, counted-wrong, counted-fine}
 use Rattle.reader.proofs.Skipping.{step-got}
 
 -- ---- where the parts stand
@@ -57,19 +55,19 @@ found_before [] x id e = rw e
 found_before (y ∷ subs) x id e = ap (λ (r : Option Subset). cond (eqb id y.id) (some y) r) (found_before subs x id e)
 
 module _ {bs : List Bool} where
-  pub no-parts : (ss : List System) → PartsStand bs ss [] (record { first = 0; second = 0 })
+  pub no-parts : (ss : List System) → PartsStand bs ss [] (record { first = None; second = None })
   unfolding of_id
   no-parts ss = record { first = none_of (nth ss 0); second = none_of (nth ss 1) }
     where
-      none_of : (s : Option System) → Stands bs 0 part_bits (chain s (λ s. none))
+      none_of : (s : Option System) → Stands bs None part_bits (chain s (λ s. none))
       none_of none = refl
       none_of (some s) = refl
 
-  module _ (subs : List Subset) (x : Subset) {p end : ℕ} (fresh : memb x.id (ids_in subs) ≡ false) (behind : 0 < p) (span : Span bs p (part_bits x) end) where
-    here : (s : System) → eqb x.id s.id ≡ true → Stands bs p part_bits (of_id (subs ++ (x ∷ [])) s.id)
-    here s e = rw (found-last subs x s.id (same_id x.id s.id e) fresh) (behind, (end, span))
+  module _ (subs : List Subset) (x : Subset) {p end : ℕ} (fresh : memb x.id (ids_in subs) ≡ false) (span : Span bs p (part_bits x) end) where
+    here : (s : System) → eqb x.id s.id ≡ true → Stands bs (Some p) part_bits (of_id (subs ++ (x ∷ [])) s.id)
+    here s e = rw (found-last subs x s.id (same_id x.id s.id e) fresh) (p, refl, (end, span))
 
-    there : (s : System) (q : ℕ) → eqb x.id s.id ≡ false → Stands bs q part_bits (of_id subs s.id) → Stands bs q part_bits (of_id (subs ++ (x ∷ [])) s.id)
+    there : (s : System) (q : Place) → eqb x.id s.id ≡ false → Stands bs q part_bits (of_id subs s.id) → Stands bs q part_bits (of_id (subs ++ (x ∷ [])) s.id)
     there s q e h = rw (found_before subs x s.id (other-id x.id s.id e)) h
 
     apart : (s t : System) → memb t.id (s.id ∷ []) ≡ false → eqb x.id s.id ≡ true → eqb x.id t.id ≡ false
@@ -94,9 +92,6 @@ module _ {bs : List Bool} where
     added {ss} {place} o e f m h = rw (f, ← e, o.planned) (cases ss place o.few o.differ m h)
 
 -- ---- the parser, part by part
-no-id : (l came : List ℕ) (v : ℕ) → IdsOk known came l → memb v l ≡ true → eqb v 16 ≡ false
-no-id l came v d m = ne_eqb v 16 (λ e. let z : ⊥ = omega (arith, e, memb-every (λ i. i < 2 ^ 4) l v (ids-small came l d) m) in z)
-
 next-bad : {A B C : Type 0} (o : Outcome A) (k : A → ℕ → Outcome B) (l : A → B → ℕ → Outcome C) {r : RefusalAt} → next o k ≡ bad r → next o (λ a m. next (k a m) (l a)) ≡ bad r
 next-bad (got a m) k l e = rw e
 next-bad (bad x) k l {r} e = let h : x ≡ r = cc in ap bad h
@@ -109,11 +104,6 @@ subset-id ss id bs at e =
     next-elim (times (count chosen) (field 13) bs j) _ e2 λ cs k _ e3. cc
 
 module _ (bs : List Bool) (ss : List System) where
-  first_part : (at : ℕ) → IdsOk known [] (ids ss) → part_of ss (16 ∷ []) bs at ≡ part_of ss [] bs at
-  unfolding part_of ◌>>=◌ wrong_id
-  first_part at d = rw (judged-same 4 (wrong_id (ids ss) (16 ∷ [])) (wrong_id (ids ss) []) bs at λ v.
-      on_bool (memb v (ids ss)) (λ m. rw (m, no-id (ids ss) [] v d m)) (λ m. rw m))
-
   parts-bad : (came : List ℕ) (n at : ℕ) {r : RefusalAt} → part_of ss came bs at ≡ bad r → systems (ids ss) (subset_system ss) came (suc n) bs at ≡ bad r
   unfolding part_of systems ◌>>=◌
   parts-bad came n at e = next-bad (judged 4 (wrong_id (ids ss) came) bs at) (λ id k. subset_system ss id bs k) _ e
@@ -129,59 +119,50 @@ module _ (bs : List Bool) (ss : List System) where
       rw (subset-id ss id bs k r) (wrong-none (ids ss) came id ((judged-reads 4 (wrong_id (ids ss) came)).sound bs at id k h q).ok.1)
 
 -- ---- one part or two
+-- what is at most so much whatever the systems are
+pub by-systems : {mask : MaskPlan} {n most : ℕ} → ∥ MaskMade mask ∥₁ → ((ss : List System) (place : ℕ) → MaskOf ss place mask → n ≤ most) → n ≤ most
+by-systems made f = ∥∥₁_elim made le_prop λ q. f q.0 q.1 q.2
+
 pub systems-few : {ss : List System} {place : ℕ} {mask : MaskPlan} → MaskOf ss place mask → mask.systems ≤ 2
 unfolding mask_plan
 systems-few o = rw o.planned o.few
 
-part-refused : (ss : List System) (mask : MaskPlan) (came : ℕ) (plan : SubsetPlan) (bs : List Bool) (at : ℕ) {x r : RefusalAt} (p : PartRead)
-    → PartReads ss mask came plan bs at p → p ≡ part-read.Refused x → r ≡ part_refusal p → part_of ss (came ∷ []) bs at ≡ bad r
-part-refused ss mask came plan bs at (part-read.Got plan' id end) t e h = absurd (let z : ◌≡◌ {A = ℕ} 0 1 = cc in omega arith)
-part-refused ss mask came plan bs at (part-read.Refused y) t e h = t ∙ ap bad (sym h)
-
 abbrev no_parts : SubsetPlan
-no_parts = record { first = 0; second = 0 }
+no_parts = record { first = None; second = None }
 
-module _ (bs : List Bool) {ss : List System} {place : ℕ} {mask : MaskPlan} (o : MaskOf ss place mask) (at : ℕ) (within : at ≤ length bs) where
-  pub one-bad : (n : ℕ) {x r : RefusalAt} (p : PartRead) → 1 ≤ n → PartReads ss mask 16 no_parts bs at p → p ≡ part-read.Refused x → r ≡ part_refusal p
-      → systems (ids ss) (subset_system ss) [] n bs at ≡ bad r
-  one-bad zero p l = absurd (let z : ⊥ = omega arith in z)
-  one-bad (suc n) p l = λ t e h. parts-bad bs ss [] n at (sym (first_part bs ss at o.differ) ∙ part-refused ss mask 16 no_parts bs at p t e h)
+module _ (bs : List Bool) {ss : List System} {place : ℕ} {mask : MaskPlan} (o : MaskOf ss place mask) (at : ℕ) where
+  pub one-bad : (n : ℕ) {r : RefusalAt} → 1 ≤ n → part_of ss [] bs at ≡ bad r → systems (ids ss) (subset_system ss) [] n bs at ≡ bad r
+  one-bad zero l = absurd (let z : ⊥ = omega arith in z)
+  one-bad (suc n) l = λ e. parts-bad bs ss [] n at e
 
-  module _ (p : PartRead) {plan : SubsetPlan} {id m : ℕ} (t : PartReads ss mask 16 no_parts bs at p) (e : p ≡ part-read.Got plan id m) where
-    one : PartReads ss mask 16 no_parts bs at (part-read.Got plan id m)
-    one = rw e at t
-
-    pub one_end : m ≤ length bs
+  module _ {p : Part} (one : PartReads ss mask [] no_parts bs at (Ok p)) where
+    pub one_end : p.end ≤ length bs
     one_end = let (s, g, i, q, span) = one in span.fits
 
-    one-next : (n : ℕ) → systems (ids ss) (subset_system ss) [] (suc n) bs at ≡ next (systems (ids ss) (subset_system ss) (id ∷ []) n bs m) (λ xs end. got (one.0 ∷ xs) end)
-    one-next n = parts_next bs ss [] n at (sym (first_part bs ss at o.differ) ∙ one.1)
-        ∙ ap (λ (i : ℕ). next (systems (ids ss) (subset_system ss) (i ∷ []) n bs m) (λ xs end. got (one.0 ∷ xs) end)) one.2
+    within : at ≤ length bs
+    within = let (s, g, i, q, span) = one in omega (arith, span.after, span.fits)
 
-    one-stands : PartsStand bs ss (one.0 ∷ []) plan
-    one-stands = added [] one.0 refl (omega arith) one.4 o one.2 one.3 (part-id bs ss (16 ∷ []) at within one.1).0 (no-parts ss)
+    one-next : (n : ℕ) → systems (ids ss) (subset_system ss) [] (suc n) bs at ≡ next (systems (ids ss) (subset_system ss) (p.id ∷ []) n bs p.end) (λ xs end. got (one.0 ∷ xs) end)
+    one-next n = parts_next bs ss [] n at one.1 ∙ ap (λ (i : ℕ). next (systems (ids ss) (subset_system ss) (i ∷ []) n bs p.end) (λ xs end. got (one.0 ∷ xs) end)) one.2
 
-    pub one-got : PartsRead ss 1 bs at (subset-read.Got plan m)
+    one-stands : PartsStand bs ss (one.0 ∷ []) p.plan
+    one-stands = added [] one.0 refl one.4 o one.2 one.3 (part-id bs ss [] at within one.1).0 (no-parts ss)
+
+    pub one-got : PartsRead ss 1 bs at (Ok (record { plan = p.plan; end = p.end }))
     unfolding systems ret
     one-got = (one.0 ∷ [], one-next 0, one-stands)
 
-    pub two-bad : {x r : RefusalAt} (q : PartRead) → PartReads ss mask id plan bs m q → q ≡ part-read.Refused x → r ≡ part_refusal q
-        → systems (ids ss) (subset_system ss) [] 2 bs at ≡ bad r
-    two-bad q u f h = one-next 1
-        ∙ ap (λ (r : Outcome (List Subset)). next r (λ xs end. got (one.0 ∷ xs) end)) (parts-bad bs ss (id ∷ []) 0 m (part-refused ss mask id plan bs m q u f h))
+    pub two-bad : {r : RefusalAt} → part_of ss (p.id ∷ []) bs p.end ≡ bad r → systems (ids ss) (subset_system ss) [] 2 bs at ≡ bad r
+    two-bad e = one-next 1 ∙ ap (λ (r : Outcome (List Subset)). next r (λ xs end. got (one.0 ∷ xs) end)) (parts-bad bs ss (p.id ∷ []) 0 p.end e)
 
-    module _ (q : PartRead) {both : SubsetPlan} {id' end : ℕ} (u : PartReads ss mask id plan bs m q) (f : q ≡ part-read.Got both id' end) where
-      two : PartReads ss mask id plan bs m (part-read.Got both id' end)
-      two = rw f at u
-
-      pub two-got : PartsRead ss 2 bs at (subset-read.Got both end)
-      unfolding systems ret
-      two-got =
-          let k = part-id bs ss (id ∷ []) m one_end two.1 in (
-            one.0 ∷ two.0 ∷ [],
-            one-next 1 ∙ ap (λ (r : Outcome (List Subset)). next r (λ xs end. got (one.0 ∷ xs) end)) (parts_next bs ss (id ∷ []) 0 m two.1),
-            added (one.0 ∷ []) two.0 (ap (λ (i : ℕ). memb two.0.id (i ∷ [])) one.2 ∙ k.1) (omega arith) two.4 o two.2 two.3 k.0 one-stands,
-          )
+    pub two-got : {q : Part} → PartReads ss mask (p.id ∷ []) p.plan bs p.end (Ok q) → PartsRead ss 2 bs at (Ok (record { plan = q.plan; end = q.end }))
+    unfolding systems ret
+    two-got two =
+        let k = part-id bs ss (p.id ∷ []) p.end one_end two.1 in (
+          one.0 ∷ two.0 ∷ [],
+          one-next 1 ∙ ap (λ (r : Outcome (List Subset)). next r (λ xs end. got (one.0 ∷ xs) end)) (parts_next bs ss (p.id ∷ []) 0 p.end two.1),
+          added (one.0 ∷ []) two.0 (ap (λ (i : ℕ). memb two.0.id (i ∷ [])) one.2 ∙ k.1) two.4 o two.2 two.3 k.0 one-stands,
+        )
 
 -- ---- the block
 block-got : {A : Type 0} (p : Parser A) (bs : List Bool) (at : ℕ) {i m : ℕ} → interval bs at ≡ got i m
@@ -193,7 +174,7 @@ pub block-bad : {A : Type 0} (p : Parser A) (bs : List Bool) (at : ℕ) {r : Ref
 unfolding block ◌>>=◌
 block-bad p bs at e = rw e
 
-module _ (bs : List Bool) {ss : List System} {place : ℕ} {mask : MaskPlan} (o : MaskOf ss place mask) (at : ℕ) {m : ℕ} (e : step_of (interval bs at) ≡ step.At m) where
+module _ (bs : List Bool) {ss : List System} {place : ℕ} {mask : MaskPlan} (o : MaskOf ss place mask) (at : ℕ) {m : ℕ} (e : step_of (interval bs at) ≡ Ok m) where
   count-refused : {r : RefusalAt} → counted (length ss) bs m ≡ bad r → block (subset ss) bs at ≡ bad r
   unfolding subset ◌>>=◌
   count-refused c = step-got (interval bs at) e λ i q. block-got (subset ss) bs at q ∙ rw c
@@ -205,14 +186,14 @@ module _ (bs : List Bool) {ss : List System} {place : ℕ} {mask : MaskPlan} (o 
   unfolding mask_plan
   count-wrong f w = count-refused (counted-wrong (length ss) bs m f (rw o.planned at w))
 
-  pub subset-is : {n k : ℕ} (r : SubsetRead) → field 4 bs m ≡ got n k → 1 ≤ n → n ≤ mask.systems → PartsRead ss n bs k r → SubsetReads ss bs at r
+  pub subset-is : {n k : ℕ} (r : Result (Read SubsetPlan) RefusalAt) → field 4 bs m ≡ got n k → 1 ≤ n → n ≤ mask.systems → PartsRead ss n bs k r → SubsetReads ss bs at r
   unfolding subset mask_plan ◌>>=◌
   subset-is {n} {k} r f lo hi = cases r
     where
       there : counted (length ss) bs m ≡ got n k
       there = counted-fine (length ss) bs m f lo (rw o.planned at hi)
 
-      cases : (r : SubsetRead) → PartsRead ss n bs k r → SubsetReads ss bs at r
-      cases (subset-read.Got plan end) t = step-got (interval bs at) e λ i q.
+      cases : (r : Result (Read SubsetPlan) RefusalAt) → PartsRead ss n bs k r → SubsetReads ss bs at r
+      cases (Ok read) t = step-got (interval bs at) e λ i q.
           (record { interval = i; body = t.0 }, block-got (subset ss) bs at q ∙ rw (there, t.1), t.2)
-      cases (subset-read.Refused x) t = step-got (interval bs at) e λ i q. block-got (subset ss) bs at q ∙ rw (there, t)
+      cases (Err x) t = step-got (interval bs at) e λ i q. block-got (subset ss) bs at q ∙ rw (there, t)

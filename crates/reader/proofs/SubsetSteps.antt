@@ -4,14 +4,13 @@ use Prim.Native.Nat.{ℕ, ◌+◌, ◌^◌, ◌≤◌, ◌<◌}
 use native.Mathlib.Omega.{arith}
 use mathlib.Core.Bool.{Bool, true, false, cond, false≢true}
 use mathlib.Core.List.{List, [], ◌∷◌}
-use mathlib.Core.Option.{none, some}
+use mathlib.Core.Option.{none}
 use mathlib.Core.Path.{◌≡◌, refl, sym, ap, ◌∙◌}
 use lib.Dec.{eqb}
 use lib.ListN.{length, take, drop}
 use Rattle.bits.specs.Bits.{bits, fits_in}
 use Rattle.lists.specs.Lists.{Every, memb}
 use Rattle.lists.proofs.Tests.{on_bool}
-use Rattle.refusal.specs.declared.Refusal.TheVariants as refusal
 use Rattle.mt1.specs.declared.answer.RefusalAt.{RefusalAt}
 use Rattle.mt1.specs.Parse.{got, bad, ◌>>=◌, ret, raw, field, judged, times, for_each, wrong_id}
 use Rattle.mt1.specs.Message.{System, Subset, count}
@@ -23,11 +22,11 @@ use Rattle.mt1.proofs.Combinators.{Took, bad-got, judged-reads}
 use Rattle.mt1.proofs.Several.{wrong-none}
 use Rattle.mt1.proofs.Blocks.{subset-system-reads}
 use Rattle.mt1.proofs.Counts.{satellites-few}
-use Rattle.reader.specs.declared.field.Step.TheVariants as step
+use Rattle.std.specs.Prelude.{Ok}
 use Rattle.reader.specs.declared.mask.MaskPlan.{MaskPlan}
 use Rattle.reader.specs.Steps.{step_of, mask_plan, MaskOf, part_bits, part_of}
-use Rattle.reader.proofs.Fields.{raw-there, raw-short, judged-same}
-use Rattle.reader.proofs.Skipping.{walk, step-got, step-bind, step-ret, field-bind, times-same, item-field}
+use Rattle.reader.proofs.Fields.{raw-there, raw-short}
+use Rattle.reader.proofs.Skipping.{judged-end, walk, step-got, step-bind, step-ret, field-bind, times-same, item-field}
 
 -- ---- a part behind its GNSS ID
 raw-got : (n : ℕ) (bs : List Bool) (at : ℕ) {b : List Bool} {m : ℕ} → raw n bs at ≡ got b m → b ≡ take n (drop at bs)
@@ -36,31 +35,27 @@ raw-got n bs at e = on_bool (fits_in bs at n)
     (λ f. absurd (bad-got (sym (raw-short n bs at f) ∙ e)))
 
 pub part-steps : (bs : List Bool) (ss : List System) (id at : ℕ) {n : ℕ} → n ≡ count (satellites_of ss id) → step_of (subset_system ss id bs at)
-    ≡ walk (step_of (raw 2 bs at)) λ i. walk (step_of (raw n bs i)) λ j. step_of (times (count (take n (drop i bs))) (for_each (13 ∷ 0 ∷ 0 ∷ 0 ∷ []) field) bs j)
+    ≡ walk (step_of (raw 2 bs at)) λ i. walk (step_of (raw n bs i)) λ j. step_of (times (count (take n (drop i bs))) (for_each (13 ∷ []) field) bs j)
 unfolding subset_system
 part-steps bs ss id at {n} h = rw (← h) (field-bind bs 2
     (λ m. raw n >>= λ chosen. times (count chosen) (field 13) >>= λ cs. ret (record { id = id; multiplier = m; chosen = chosen; clocks = cs }))
-    (λ i. walk (step_of (raw n bs i)) λ j. step_of (times (count (take n (drop i bs))) (for_each (13 ∷ 0 ∷ 0 ∷ 0 ∷ []) field) bs j)) at λ m i.
+    (λ i. walk (step_of (raw n bs i)) λ j. step_of (times (count (take n (drop i bs))) (for_each (13 ∷ []) field) bs j)) at λ m i.
     step-bind bs (raw n) (λ chosen. times (count chosen) (field 13) >>= λ cs. ret (record { id = id; multiplier = m; chosen = chosen; clocks = cs }))
-    (λ j. step_of (times (count (take n (drop i bs))) (for_each (13 ∷ 0 ∷ 0 ∷ 0 ∷ []) field) bs j)) i λ chosen j e.
+    (λ j. step_of (times (count (take n (drop i bs))) (for_each (13 ∷ []) field) bs j)) i λ chosen j e.
     step-ret bs (times (count chosen) (field 13)) (λ cs. record { id = id; multiplier = m; chosen = chosen; clocks = cs }) j
-    ∙ times-same bs (count chosen) (field 13) (for_each (13 ∷ 0 ∷ 0 ∷ 0 ∷ []) field) j (λ k. sym (item-field bs 13 k))
-    ∙ ap (λ (b : List Bool). step_of (times (count b) (for_each (13 ∷ 0 ∷ 0 ∷ 0 ∷ []) field) bs j)) (raw-got n bs i e))
+    ∙ times-same bs (count chosen) (field 13) (for_each (13 ∷ []) field) j (λ k. sym (item-field bs 13 k))
+    ∙ ap (λ (b : List Bool). step_of (times (count b) (for_each (13 ∷ []) field) bs j)) (raw-got n bs i e))
 
 -- ---- which GNSS IDs may come, and whose satellites they are
-wrong-same : (may like came : List ℕ) (v : ℕ) → memb v may ≡ memb v like → wrong_id may came v ≡ wrong_id like came v
-unfolding wrong_id
-wrong-same may like came v e = ap (λ (b : Bool). cond b (cond (memb v came) (some refusal.Twice) none) (some refusal.System)) e
-
-abbrev last_id : MaskPlan → ℕ
-last_id mask = cond (eqb mask.systems 2) mask.second.id mask.first.id
-
-may_come : (ss : List System) (place v : ℕ) → length ss ≤ 2 → 1 ≤ length ss → memb v (ids ss) ≡ memb v ((mask_plan ss place).first.id ∷ last_id (mask_plan ss place) ∷ [])
+pub ids-are : {ss : List System} {place : ℕ} {mask : MaskPlan} → MaskOf ss place mask → take mask.systems (mask.first.id ∷ mask.second.id ∷ []) ≡ ids ss
 unfolding mask_plan nth
-may_come [] place v few h = absurd (let z : ⊥ = omega arith in z)
-may_come (s ∷ []) place v few h = on_bool (eqb v s.id) (λ e. rw e) (λ e. rw e)
-may_come (s ∷ t ∷ []) place v few h = refl
-may_come (s ∷ t ∷ u ∷ ss) place v few h = absurd (let z : ⊥ = omega arith in z)
+ids-are {ss} {place} o = rw o.planned (cases ss o.few)
+  where
+    cases : (ss : List System) → length ss ≤ 2 → take (mask_plan ss place).systems ((mask_plan ss place).first.id ∷ (mask_plan ss place).second.id ∷ []) ≡ ids ss
+    cases [] few = refl
+    cases (s ∷ []) few = refl
+    cases (s ∷ t ∷ []) few = refl
+    cases (s ∷ t ∷ u ∷ ss) few = absurd (let z : ⊥ = omega arith in z)
 
 satellites-are : (ss : List System) (place id : ℕ) → length ss ≤ 2 → memb id (ids ss) ≡ true
     → cond (eqb id (mask_plan ss place).first.id) (mask_plan ss place).first.satellites (mask_plan ss place).second.satellites ≡ count (satellites_of ss id)
@@ -84,37 +79,32 @@ either-few {ss} {place} o first = rw o.planned (cases ss o.each o.few first)
     cases (s ∷ t ∷ []) k few false = satellites-few t k.1.0
     cases (s ∷ t ∷ u ∷ ss) k few first = absurd (let z : ⊥ = omega arith in z)
 
--- ---- a part with its GNSS ID, where another came
-module _ (bs : List Bool) {ss : List System} {place : ℕ} {mask : MaskPlan} (o : MaskOf ss place mask) (h : 1 ≤ mask.systems) {last : ℕ}
-    (l : last ≡ last_id mask) (came at : ℕ) where
-  id_same : judged 4 (wrong_id (ids ss) (came ∷ [])) bs at ≡ judged 4 (wrong_id (mask.first.id ∷ last ∷ []) (came ∷ [])) bs at
-  unfolding mask_plan
-  id_same = rw l (judged-same 4 (wrong_id (ids ss) (came ∷ [])) (wrong_id (mask.first.id ∷ last_id mask ∷ []) (came ∷ [])) bs at λ v.
-      wrong-same (ids ss) (mask.first.id ∷ last_id mask ∷ []) (came ∷ []) v
-      (rw o.planned (may_come ss place v o.few (let e : mask.systems ≡ length ss = ap (λ (p : MaskPlan). p.systems) o.planned in omega (arith, e)))))
-
-  pub id-bad : {r : RefusalAt} → judged 4 (wrong_id (mask.first.id ∷ last ∷ []) (came ∷ [])) bs at ≡ bad r → part_of ss (came ∷ []) bs at ≡ bad r
+-- ---- a part with its GNSS ID, where these came
+module _ (bs : List Bool) {ss : List System} {place : ℕ} {mask : MaskPlan} (o : MaskOf ss place mask) (came : List ℕ) (at : ℕ) {may : List ℕ} (m : may ≡ ids ss) where
+  pub id-bad : {r : RefusalAt} → judged 4 (wrong_id may came) bs at ≡ bad r → part_of ss came bs at ≡ bad r
   unfolding part_of ◌>>=◌
-  id-bad e = rw (id_same, e)
+  id-bad e = rw (← m, e)
 
-  module _ {id : ℕ} (g : judged 4 (wrong_id (mask.first.id ∷ last ∷ []) (came ∷ [])) bs at ≡ got id (at + 4)) where
-    pub part-bad : {r : RefusalAt} → subset_system ss id bs (at + 4) ≡ bad r → part_of ss (came ∷ []) bs at ≡ bad r
+  module _ {id : ℕ} (g : judged 4 (wrong_id may came) bs at ≡ got id (at + 4)) where
+    pub part-bad : {r : RefusalAt} → subset_system ss id bs (at + 4) ≡ bad r → part_of ss came bs at ≡ bad r
     unfolding part_of ◌>>=◌
-    part-bad e = rw (id_same, g, e)
+    part-bad e = rw (← m, g, e)
 
-    module _ (within : at ≤ length bs) where
-      id-took : Took (λ v. (v < 2 ^ 4) × (wrong_id (ids ss) (came ∷ []) v ≡ none)) (bits 4) bs at id (at + 4)
-      id-took = (judged-reads 4 (wrong_id (ids ss) (came ∷ []))).sound bs at id (at + 4) within (id_same ∙ g)
+    within : at + 4 ≤ length bs
+    within = (judged-end bs 4 (wrong_id may came) at (at + 4) (ap step_of g)).1
 
-      pub id-end : at + 4 ≤ length bs
-      id-end = id-took.span.fits
+    id-took : Took (λ v. (v < 2 ^ 4) × (wrong_id (ids ss) came v ≡ none)) (bits 4) bs at id (at + 4)
+    id-took = (judged-reads 4 (wrong_id (ids ss) came)).sound bs at id (at + 4) (omega (arith, within)) (rw m at g)
 
-      pub satellites-there : {n : ℕ} → n ≡ cond (eqb id mask.first.id) mask.first.satellites mask.second.satellites → n ≡ count (satellites_of ss id)
-      satellites-there e = e ∙ rw o.planned (satellites-are ss place id o.few (wrong-none (ids ss) (came ∷ []) id id-took.ok.1).0)
+    pub id-end : at + 4 ≤ length bs
+    id-end = id-took.span.fits
 
-      pub part-got : {end : ℕ} → step_of (subset_system ss id bs (at + 4)) ≡ step.At end
-          → (s : Subset) × (part_of ss (came ∷ []) bs at ≡ got s end) × (s.id ≡ id) × Span bs (at + 4) (part_bits s) end
-      unfolding part_of part_bits ◌>>=◌
-      part-got {end} e = step-got (subset_system ss id bs (at + 4)) e λ s q.
-          let t = (subset-system-reads ss id).sound bs (at + 4) s end id-end q in
-          (s, rw (id_same, g, q), t.ok.0, t.span)
+    pub satellites-there : {n : ℕ} → n ≡ cond (eqb id mask.first.id) mask.first.satellites mask.second.satellites → n ≡ count (satellites_of ss id)
+    satellites-there e = e ∙ rw o.planned (satellites-are ss place id o.few (wrong-none (ids ss) came id id-took.ok.1).0)
+
+    pub part-got : {end : ℕ} → Ok end ≡ step_of (subset_system ss id bs (at + 4))
+        → (s : Subset) × (part_of ss came bs at ≡ got s end) × (s.id ≡ id) × Span bs (at + 4) (part_bits s) end
+    unfolding part_of part_bits ◌>>=◌
+    part-got {end} e = step-got (subset_system ss id bs (at + 4)) (sym e) λ s q.
+        let t = (subset-system-reads ss id).sound bs (at + 4) s end id-end q in
+        (s, rw (← m, g, q), t.ok.0, t.span)

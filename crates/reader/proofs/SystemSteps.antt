@@ -12,6 +12,7 @@ use borrow.Author.Tests.{leb-true}
 use Rattle.bits.specs.Bits.{bits, fits_in}
 use Rattle.bits.proofs.Values.{length-bits}
 use Rattle.lists.proofs.Tests.{on_bool}
+use Rattle.std.specs.Prelude.{Ok, Err}
 use Rattle.refusal.specs.declared.Refusal.TheVariants as refusal
 use Rattle.mt1.specs.declared.answer.RefusalAt.{RefusalAt}
 use Rattle.mt1.specs.Parse.{Outcome, got, bad, refuse, ◌>>=◌, ret, raw, field, judged}
@@ -22,9 +23,8 @@ use Rattle.mt1.proofs.Combinators.{bad-got}
 use Rattle.mt1.proofs.Masks.{system-reads}
 use Rattle.mt1.proofs.Counts.{satellites-few, signals-few}
 use Rattle.reader.specs.declared.mask.SystemPlan.{SystemPlan}
-use Rattle.reader.specs.declared.mask.SystemRead.{SystemRead}
-use Rattle.reader.specs.declared.mask.SystemRead.TheVariants as system-read
-use Rattle.reader.specs.Steps.{body_bits, system_plan, system_answer, system_refusal, system_end}
+use Rattle.reader.specs.declared.field.Read.{Read}
+use Rattle.reader.specs.Steps.{body_bits, system_plan, system_answer, system_end}
 use Rattle.reader.proofs.Fields.{raw-there, raw-short}
 
 -- ---- a system from its cell mask on
@@ -41,32 +41,32 @@ pub cells-few : (flag : Bool) {n s g : ℕ} → n ≡ cond flag (s * g) 0 → s 
 cells-few true e p q = omega (arith, e, mul-le-mul p q)
 cells-few false e p q = omega (arith, e)
 
-module _ (id flag place : ℕ) (bs a b : List Bool) {s g n : ℕ} (ha : s ≡ count a) (hb : g ≡ count b) (hn : n ≡ cond (eqb flag 1) (s * g) 0) where
+module _ (id flag place : ℕ) (bs a b : List Bool) {s g n : ℕ} (ha : s ≡ count a) (hb : g ≡ count b) {masked : Bool} (hm : masked ≡ eqb flag 1) (hn : n ≡ cond masked (s * g) 0) where
   all : n ≡ cond (eqb flag 1) (cell_bits a b) 0
-  all = rw (← ha, ← hb) hn
+  all = rw (← ha, ← hb, ← hm) hn
 
-  pub cells-bad : {r : RefusalAt} → raw n bs (place + 57) ≡ bad r → system-read.Refused r ≡ system_answer place (system_end id a b flag bs (place + 57))
+  pub cells-bad : {r : RefusalAt} → raw n bs (place + 57) ≡ bad r → Err r ≡ system_answer place (system_end id a b flag bs (place + 57))
   unfolding system_end ◌>>=◌
   cells-bad e = rw (← all, e) refl
 
-  module _ {m : ℕ} (hm : (m ≡ place + 57 + n) × (fits_in bs (place + 57) n ≡ true)) where
+  module _ {m : ℕ} (he : (m ≡ place + 57 + n) × (fits_in bs (place + 57) n ≡ true)) where
     here : raw n bs (place + 57) ≡ got (take n (drop (place + 57) bs)) m
-    here = rw hm.0 (raw-there n bs (place + 57) hm.1)
+    here = rw he.0 (raw-there n bs (place + 57) he.1)
 
-    pub navigation-bad : {r : RefusalAt} → field 3 bs m ≡ bad r → system-read.Refused r ≡ system_answer place (system_end id a b flag bs (place + 57))
+    pub navigation-bad : {r : RefusalAt} → field 3 bs m ≡ bad r → Err r ≡ system_answer place (system_end id a b flag bs (place + 57))
     unfolding system_end ◌>>=◌ judged
     navigation-bad e = rw (← all, here, e) refl
 
     pub navigation-wrong : {v : ℕ} → field 3 bs m ≡ got v (m + 3) → eqb v 0 ≡ false
-        → system-read.Refused (refuse refusal.NavMsg m) ≡ system_answer place (system_end id a b flag bs (place + 57))
+        → Err (refuse refusal.NavMsg m) ≡ system_answer place (system_end id a b flag bs (place + 57))
     unfolding system_end ◌>>=◌ judged
     navigation-wrong e f = rw (← all, here, e, f) refl
 
-    pub system-made : {v k : ℕ} → field 3 bs m ≡ got v (m + 3) → eqb v 0 ≡ true → k ≡ cond (eqb flag 1) (count (take n (drop (place + 57) bs))) (s * g)
-        → system-read.Got (record { id = id; place = place; satellites = s; signals = g; flag = flag; cells = k }) (m + 3)
+    pub system-made : {v k : ℕ} → field 3 bs m ≡ got v (m + 3) → eqb v 0 ≡ true → k ≡ cond masked (count (take n (drop (place + 57) bs))) (s * g)
+        → Ok (record { plan = record { id = id; place = place; satellites = s; signals = g; flag = masked; cells = k }; end = m + 3 })
         ≡ system_answer place (system_end id a b flag bs (place + 57))
     unfolding system_end ◌>>=◌ ret judged cells_of
-    system-made e f h = rw (← all, here, e, f, h, count-cond (eqb flag 1) (take n (drop (place + 57) bs)) (cell_bits a b), ha, hb) refl
+    system-made e f h = rw (← all, here, e, f, h, hm, count-cond (eqb flag 1) (take n (drop (place + 57) bs)) (cell_bits a b), ha, hb) refl
 
 -- ---- a system behind its GNSS ID
 module _ (id place : ℕ) (bs : List Bool) where
@@ -91,14 +91,16 @@ module _ (id place : ℕ) (bs : List Bool) where
           rw (raw-there 40 bs place hm.1, ← hm.0, raw-there 16 bs m hk.1, ← hk.0, e, p) refl
 
 -- ---- what a system's answer tells
-pub system-bad : (place : ℕ) (o : Outcome System) {x r : RefusalAt} {f : SystemRead} → f ≡ system_answer place o → f ≡ system-read.Refused x → r ≡ system_refusal f → o ≡ bad r
-system-bad place (got v end) e g h = absurd (let z : ◌≡◌ {A = ℕ} 0 1 = cc in omega arith)
-system-bad place (bad y) e g h = ap bad (sym (h ∙ ap system_refusal e))
+pub system-bad : (place : ℕ) (o : Outcome System) {r : RefusalAt} → Err r ≡ system_answer place o → o ≡ bad r
+system-bad place (got v end) e = absurd (let z : ◌≡◌ {A = ℕ} 0 1 = cc in omega arith)
+system-bad place (bad y) {r} e = let h : y ≡ r = cc in ap bad h
 
-pub system-got {ℓ} : {X : Type ℓ} (place : ℕ) (o : Outcome System) {plan : SystemPlan} {end : ℕ} {f : SystemRead} → f ≡ system_answer place o → f ≡ system-read.Got plan end
-    → ((s : System) → o ≡ got s end → plan ≡ system_plan s place → X) → X
-system-got place (got s m) {end = end} e g k = let h : m ≡ end = cc in k s (ap (got s) h) (cc)
-system-got place (bad y) e g k = absurd (let z : ◌≡◌ {A = ℕ} 0 1 = cc in omega arith)
+pub system-got {ℓ} : {X : Type ℓ} (place : ℕ) (o : Outcome System) {f : Read SystemPlan} → Ok f ≡ system_answer place o
+    → ((s : System) → o ≡ got s f.end → f.plan ≡ system_plan s place → X) → X
+system-got place (got s m) {f} e k =
+    let h : f ≡ record { plan = system_plan s place; end = m } = cc in
+    k s (ap (got s) (sym (ap (λ (x : Read SystemPlan). x.end) h))) (ap (λ (x : Read SystemPlan). x.plan) h)
+system-got place (bad y) e k = absurd (let z : ◌≡◌ {A = ℕ} 0 1 = cc in omega arith)
 
 -- how long it is
 pub mask-cells : (s : System) → SystemOk s → length s.cells ≤ 640
@@ -136,8 +138,7 @@ system-long id place bs {s} {end} e = on_bool (fits_in bs place 40)
     })
     (λ f. absurd (bad-got (sym (satellites-bad id place bs (raw-short 40 bs place f)) ∙ e)))
 
-pub system-near : (id place : ℕ) (bs : List Bool) {plan : SystemPlan} {end : ℕ} {f : SystemRead} → f ≡ system_answer place (system id bs place) → f ≡ system-read.Got plan end
-    → end ≤ place + 700
-system-near id place bs e g = system-got place (system id bs place) e g λ s h p.
+pub system-near : (id place : ℕ) (bs : List Bool) {f : Read SystemPlan} → Ok f ≡ system_answer place (system id bs place) → f.end ≤ place + 700
+system-near id place bs e = system-got place (system id bs place) e λ s h p.
     let l = system-long id place bs h in
     omega (arith, l.ends, l.few)

@@ -15,7 +15,7 @@ use Rattle.mt1.specs.Message.{has_orbit, has_clock, has_subset, has_code, has_ph
 use Rattle.mt1.specs.Mt1.{known, iod_bits, Lent}
 use Rattle.mt1.specs.Valid.{SystemOk, IfFlag}
 use Rattle.mt1.specs.Encode.{each, block_bits, orbit_bits, orbits_bits, clocks_bits, codes_bits, phase_bits, phases_bits}
-use Rattle.mt1.specs.Records.{at, body, multiplier_of, of_id, subset_of}
+use Rattle.mt1.specs.Records.{at, body, of_id, subset_of}
 use Rattle.mt1.proofs.Masks.{known_small}
 use Rattle.mt1.proofs.Several.{if-flag, memb-every}
 use Rattle.mt1.proofs.Elements.{every_some, may_come, satellites-of}
@@ -25,8 +25,8 @@ use Rattle.reader.specs.declared.mask.SystemPlan.{SystemPlan}
 use Rattle.reader.specs.declared.mask.MaskPlan.{MaskPlan}
 use Rattle.reader.specs.declared.plan.Plan.{Plan}
 use Rattle.reader.specs.declared.record.Rows.{Rows}
-use Rattle.reader.specs.Steps.{system_plan, plan_of, cells_length, mask_plan, Stands, body_bits, part_bits, chain, subsets_in, Planned}
-use Rattle.reader.specs.Recording.{row, IfSome, SystemStands, Near, RowsStand, Emits, onwards, Close, first_rows, second_rows}
+use Rattle.reader.specs.Steps.{system_plan, plan_of, cells_length, mask_plan, Place, Stands, StandsAt, part_bits, chain, subsets_in, Planned}
+use Rattle.reader.specs.Recording.{row, IfSome, SystemStands, Within, Near, RowsStand, Emits, onwards, Close, first_rows, second_rows}
 use Rattle.reader.proofs.SystemSteps.{mask-cells}
 use Rattle.reader.proofs.InMask.{part-ok, part_of_lem}
 use Rattle.reader.proofs.RowsStanding.{total, total-one, orbit-row, code_row, phase-row, clock-row, multiplier-at}
@@ -58,12 +58,12 @@ module _ {lent : Lent} {octets sourced : List ℕ} {m : Message} {ss : List Syst
     pub ok_at : SystemOk s
     ok_at = every_some SystemOk ss p here planned.mask.made.1.each
 
-    system-stands : {q : SystemPlan} {n : ℕ} → q ≡ system_plan s n → Stands (bits_of sourced) q.place body_bits (at ss p) → SystemStands (bits_of sourced) s q
+    system-stands : {q : SystemPlan} {n : ℕ} → q ≡ system_plan s n → StandsAt (bits_of sourced) q.place (at ss p) → SystemStands (bits_of sourced) s q
     system-stands {q} {n} e st = record {
       planned = e ∙ ap (system_plan s) (sym (ap (λ (x : SystemPlan). x.place) e));
       ok = ok_at;
       known = memb-every (λ i. i < 2 ^ 4) known s.id known_small (may_come known [] ss p here planned.mask.made.1.differ);
-      bits = (rw here at st).1;
+      bits = rw here at st;
     }
 
     -- ---- of the rows
@@ -104,15 +104,14 @@ module _ {lent : Lent} {octets sourced : List ℕ} {m : Message} {ss : List Syst
   short : length (bits_of octets) ≤ 163840
   short = omega (arith, length-bits_of octets, planned.short)
 
-  stands-near : {A : Type 0} (place : ℕ) (f : A → List Bool) (x : Option A) → Stands (bits_of octets) place f x → place ≤ 163840
-  stands-near place f none st = omega (arith, st)
-  stands-near place f (some x) st = omega (arith, st.1.1.fits, st.1.1.after, short)
+  stands-near : {A : Type 0} (place : Place) (f : A → List Bool) (x : Option A) → Stands (bits_of octets) place f x → Within 163840 place
+  stands-near place f none st = rw st tt
+  stands-near place f (some x) st = rw st.1 (let z : st.0 ≤ 163840 = omega (arith, st.2.1.fits, st.2.1.after, short) in z)
 
   pub near-rows : {p : ℕ} {s : System} {rows : Rows} → RowsStand (bits_of octets) m p s rows → Near rows
   near-rows {p} {s} {rows} r = record {
     iod = omega (arith, r.iod, iod-le s.id);
     orbit = stands-near rows.orbit (each (orbit_bits s.id)) (row m.orbits p) r.orbit;
-    multiplier = stands-near rows.multiplier (bits 2) (multiplier_of m.clocks p) r.multiplier;
     clock = stands-near rows.clock (each (bits 13)) (row (body (λ c. c.clocks) m.clocks) p) r.clock;
     part = stands-near rows.part part_bits (subset_of m.subset s.id) r.part;
     code = stands-near rows.code (each (bits 11)) (row m.codes p) r.code;
@@ -145,24 +144,28 @@ module _ {lent : Lent} {octets sourced : List ℕ} {m : Message} {ss : List Syst
   unfolding total
   first-emits {s} e h =
       let q = first-is e in
+      let r = rows_at 0 e (first_rows plan) h (ap (λ (x : SystemPlan). iod_bits x.id) q) refl refl
+      (ap (onwards plan.clock) (ap (λ (k : ℕ). 4 + 2 * k) systems-are ∙ sym (add-zero (4 + 2 * length ss)))) planned.blocks.parts.first refl refl in
       record {
         near = omega (arith, ap (λ (x : SystemPlan). x.place) q, planned.mask.near);
+        rows-near = near-rows r;
         mask = system-stands 0 e q planned.mask.first;
-        rows-stand = rows_at 0 e (first_rows plan) h (ap (λ (x : SystemPlan). iod_bits x.id) q) refl refl
-            (ap (onwards plan.clock) (ap (λ (k : ℕ). 4 + 2 * k) systems-are ∙ sym (add-zero (4 + 2 * length ss)))) planned.blocks.parts.first refl refl;
+        rows-stand = r;
       }
 
   pub second-emits : {s t : System} → at ss 0 ≡ some s → at ss 1 ≡ some t → 1 < length ss → Emits octets sourced plan.mask.second (second_rows plan) m 1 t
   second-emits {s} {t} e f h =
       let q = first-is e in
       let r = second_is e f in
+      let rows = rows_at 1 f (second_rows plan) h (ap (λ (x : SystemPlan). iod_bits x.id) r)
+      (ap (λ (k : ℕ). onwards plan.orbit (4 + k)) (behind (λ x. x.satellites * (iod_bits x.id + 37)))) refl
+      (ap₂ (λ (n k : ℕ). onwards plan.clock (4 + 2 * n + k)) systems-are (behind (λ x. x.satellites * 13))) planned.blocks.parts.second
+      (ap (λ (k : ℕ). onwards plan.code (4 + k)) (behind (λ x. x.cells * 11))) (ap (λ (k : ℕ). onwards plan.phase (4 + k)) (behind (λ x. x.cells * 13))) in
       record {
         near = omega (arith, ap (λ (x : SystemPlan). x.place) r, planned.mask.near, mask-cells s (ok_at 0 e));
+        rows-near = near-rows rows;
         mask = system-stands 1 f r planned.mask.second;
-        rows-stand = rows_at 1 f (second_rows plan) h (ap (λ (x : SystemPlan). iod_bits x.id) r)
-            (ap (λ (k : ℕ). onwards plan.orbit (4 + k)) (behind (λ x. x.satellites * (iod_bits x.id + 37)))) refl
-            (ap₂ (λ (n k : ℕ). onwards plan.clock (4 + 2 * n + k)) systems-are (behind (λ x. x.satellites * 13))) planned.blocks.parts.second
-            (ap (λ (k : ℕ). onwards plan.code (4 + k)) (behind (λ x. x.cells * 11))) (ap (λ (k : ℕ). onwards plan.phase (4 + k)) (behind (λ x. x.cells * 13)));
+        rows-stand = rows;
       }
     where
       behind : (w : SystemPlan → ℕ) → w plan.mask.first ≡ total (λ x. w (system_plan x (place + 8))) (take 1 ss)

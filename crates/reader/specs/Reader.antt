@@ -1,12 +1,11 @@
 -- What `read` and `read_octets` answer and write: 01, Message type 1, last paragraph, and Records.
 -- Leans on the parser and the records, and of pagecode on which lengths are pages.
-use Rattle.std.specs.Prelude.{ℕ, ◌/◌, Bool, ◌&&◌, cond, List, ◌≡◌, eqb, leb, length}
+use Rattle.std.specs.Prelude.{ℕ, ◌/◌, Bool, ◌&&◌, cond, List, ◌≡◌, eqb, leb, length, Result, Ok, Err}
 use Rattle.lists.specs.Lists.{laid}
 use Rattle.bits.specs.Bits.{bits_of}
 use Rattle.pagecode.specs.Encode.{are_pages}
 use Rattle.refusal.specs.declared.Refusal.TheVariants.{Length, Out}
-use Rattle.reader.specs.declared.reading.ReadAnswer.{ReadAnswer}
-use Rattle.reader.specs.declared.reading.ReadAnswer.TheVariants.{Records, Refused}
+use Rattle.mt1.specs.declared.answer.RefusalAt.{RefusalAt}
 use Rattle.mt1.specs.Parse.{Outcome, got, bad, refuse}
 use Rattle.mt1.specs.Message.{Message}
 use Rattle.mt1.specs.Mt1.{Lent, message}
@@ -33,9 +32,9 @@ unfolding bits_of message
 reading_octets c = reading_if (leb 4 (length c.octets) && leb (length c.octets) 20480) c
 
 -- "A good answer gives the number of records"
-abbrev pub answer_of : Lent → Outcome Message → ReadAnswer
-answer_of lent (got m end) = Records (length (records_of lent m) / 16)
-answer_of lent (bad r) = Refused r
+abbrev pub answer_of : Lent → Outcome Message → Result ℕ RefusalAt
+answer_of lent (got m end) = Ok (length (records_of lent m) / 16)
+answer_of lent (bad r) = Err r
 
 -- "the buffer behind them is untouched"; "No refusal writes a lent buffer"
 abbrev pub buffer_of : Lent → Outcome Message → List ℕ → List ℕ
@@ -43,6 +42,6 @@ buffer_of lent (got m end) before = laid before 0 (records_of lent m)
 buffer_of lent (bad r) before = before
 
 -- the contract of `read` and of `read_octets`, whose buffer holds `before`, and then `after`
-pub record Reads (how : Call → Outcome Message) (c : Call) (before : List ℕ) (answer : ReadAnswer) (after : List ℕ) : Type 0 where
+pub record Reads (how : Call → Outcome Message) (c : Call) (before : List ℕ) (answer : Result ℕ RefusalAt) (after : List ℕ) : Type 0 where
   pub answered : answer ≡ answer_of c.lent (how c)
   pub buffer : after ≡ buffer_of c.lent (how c) before

@@ -1,11 +1,12 @@
 -- What the second pass of the code does, which writes the records: for private contracts alone. No public contract and no theorem of the demands cites it.
 -- Leans on the records, and on where the first pass found things.
-use Rattle.std.specs.Prelude.{ℕ, ◌+◌, ◌*◌, ◌^◌, ◌≤◌, ◌<◌, ◌≡◌, Bool, true, false, cond, List, [], eqb, length, get_or}
+use Rattle.std.specs.Prelude.{ℕ, ◌+◌, ◌*◌, ◌^◌, ◌≤◌, ◌<◌, ◌≡◌, Bool, true, false, List, [], length, get_or, Some, None}
 use Rattle.std.proofs.Math.Option.{Option, none, some}
 use Rattle.bits.specs.Bits.{bits, bits_of}
 use Rattle.reader.specs.declared.mask.SystemPlan.{SystemPlan}
 use Rattle.reader.specs.declared.plan.Plan.{Plan}
 use Rattle.reader.specs.declared.record.Rows.{Rows}
+use Rattle.reader.specs.declared.record.SystemRecords.{SystemRecords}
 use Rattle.reader.specs.declared.emit.Cursor.{Cursor}
 use Rattle.reader.specs.declared.emit.CellCursor.{CellCursor}
 use Rattle.mt1.specs.Message.{System, count, count_before, cells_of, Subset, Block, Message}
@@ -14,7 +15,7 @@ use Rattle.mt1.proofs.Spans.{Span}
 use Rattle.mt1.specs.Encode.{each, orbit_bits, phase_bits}
 use Rattle.mt1.specs.Valid.{SystemOk, Row, OrbitOk, PhaseOk}
 use Rattle.mt1.specs.Records.{multiplier_of, body, subset_of}
-use Rattle.reader.specs.Steps.{system_plan, Stands, body_bits, part_bits}
+use Rattle.reader.specs.Steps.{system_plan, Place, Stands, body_bits, part_bits}
 
 -- ---- the rows of the system at place p
 abbrev pub row : {A : Type 0} → Option (Block (List (List A))) → ℕ → Option (List A)
@@ -51,14 +52,18 @@ pub record SystemStands (bs : List Bool) (s : System) (plan : SystemPlan) : Type
   pub known : s.id < 2 ^ 4
   pub bits : (end : ℕ) × Span bs plan.place (body_bits s) end
 
+-- a place, if there is one, is at most so far on
+abbrev pub Within : ℕ → Place → Type 0
+Within n None = Unit {0}
+Within n (Some p) = p ≤ n
+
 pub record Near (rows : Rows) : Type 0 where
   pub iod : rows.iod ≤ 10
-  pub orbit : rows.orbit ≤ 163840
-  pub multiplier : rows.multiplier ≤ 163840
-  pub clock : rows.clock ≤ 163840
-  pub part : rows.part ≤ 163840
-  pub code : rows.code ≤ 163840
-  pub phase : rows.phase ≤ 163840
+  pub orbit : Within 163840 rows.orbit
+  pub clock : Within 163840 rows.clock
+  pub part : Within 163840 rows.part
+  pub code : Within 163840 rows.code
+  pub phase : Within 163840 rows.phase
 
 pub record RowsStand (bs : List Bool) (m : Message) (p : ℕ) (s : System) (rows : Rows) : Type 0 where
   pub iod : rows.iod ≡ iod_bits s.id
@@ -78,8 +83,12 @@ pub record RowsStand (bs : List Bool) (m : Message) (p : ℕ) (s : System) (rows
 -- the system at place p, its mask and its rows
 pub record Emits (octets sourced : List ℕ) (plan : SystemPlan) (rows : Rows) (m : Message) (p : ℕ) (s : System) : Type 0 where
   pub near : plan.place ≤ 2000
+  pub rows-near : Near rows
   pub mask : SystemStands (bits_of sourced) s plan
   pub rows-stand : RowsStand (bits_of octets) m p s rows
+
+abbrev pub EmitsOf : SystemRecords → Message → System → Type 0
+EmitsOf from m s = Emits from.octets.now from.source.now from.system from.rows m from.p s
 
 -- the satellite of an index is the nth that is masked
 pub record RowOf (s : System) (i n : ℕ) : Type 0 where
@@ -98,14 +107,15 @@ pub record InRow (s : System) (n g : ℕ) (c : CellCursor) : Type 0 where
   pub cell : c.cell ≡ count_before (cells_of s) (n * count s.signals + count_before s.signals g)
 
 -- ---- the rows of the first system and of the second, from the blocks' places
-abbrev pub onwards : ℕ → ℕ → ℕ
-onwards place n = cond (eqb place 0) 0 (place + n)
+abbrev pub onwards : Place → ℕ → Place
+onwards None n = None
+onwards (Some p) n = Some (p + n)
 
 pub record Close (plan : Plan) : Type 0 where
-  pub orbit : plan.orbit ≤ 163840
-  pub clock : plan.clock ≤ 163840
-  pub code : plan.code ≤ 163840
-  pub phase : plan.phase ≤ 163840
+  pub orbit : Within 163840 plan.orbit
+  pub clock : Within 163840 plan.clock
+  pub code : Within 163840 plan.code
+  pub phase : Within 163840 plan.phase
   pub systems : plan.mask.systems ≤ 2
   pub satellites : plan.mask.first.satellites ≤ 40
   pub cells : plan.mask.first.cells ≤ 640

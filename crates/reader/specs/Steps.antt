@@ -1,62 +1,45 @@
 -- What the first pass of the code does: for private contracts alone. No public contract and no theorem of the demands cites it.
 -- Leans on the parser.
-use Rattle.std.specs.Prelude.{ℕ, ◌+◌, ◌≤◌, ◌<◌, ◌≡◌, Bool, true, false, cond, List, [], ◌∷◌, ◌++◌, eqb, length}
+use Rattle.std.specs.Prelude.{ℕ, ◌+◌, ◌≤◌, ◌≡◌, Bool, true, false, cond, List, [], ◌∷◌, ◌++◌, eqb, length, Option as Maybe, Some, None, Result, Ok, Err}
 use Rattle.std.proofs.Math.Option.{Option, none, some}
 use Rattle.lists.specs.Lists.{Every}
 use Rattle.bits.specs.Bits.{bits, bits_of}
 use Rattle.refusal.specs.declared.Refusal.TheVariants as refusal
 use Rattle.mt1.specs.declared.answer.RefusalAt.{RefusalAt}
-use Rattle.reader.specs.declared.field.Field.{Field}
-use Rattle.reader.specs.declared.field.Field.TheVariants as field-answer
-use Rattle.reader.specs.declared.field.Step.{Step}
-use Rattle.reader.specs.declared.field.Step.TheVariants as step
+use Rattle.reader.specs.declared.field.Read.{Read}
 use Rattle.reader.specs.declared.mask.SystemPlan.{SystemPlan}
 use Rattle.reader.specs.declared.mask.MaskPlan.{MaskPlan}
-use Rattle.reader.specs.declared.mask.SystemRead.{SystemRead}
-use Rattle.reader.specs.declared.mask.SystemRead.TheVariants as system-read
-use Rattle.reader.specs.declared.mask.MaskRead.{MaskRead}
-use Rattle.reader.specs.declared.mask.MaskRead.TheVariants as mask-read
-use Rattle.reader.specs.declared.block.Widths.{Widths}
 use Rattle.reader.specs.declared.subset.SubsetPlan.{SubsetPlan}
-use Rattle.reader.specs.declared.subset.PartRead.{PartRead}
-use Rattle.reader.specs.declared.subset.PartRead.TheVariants as part-read
-use Rattle.reader.specs.declared.subset.SubsetRead.{SubsetRead}
-use Rattle.reader.specs.declared.subset.SubsetRead.TheVariants as subset-read
+use Rattle.reader.specs.declared.subset.Part.{Part}
 use Rattle.reader.specs.declared.plan.Plan.{Plan}
-use Rattle.reader.specs.declared.plan.PlanRead.{PlanRead}
-use Rattle.reader.specs.declared.plan.PlanRead.TheVariants as plan-read
-use Rattle.mt1.specs.Parse.{Outcome, got, bad, Parser, refuse, ◌>>=◌, ret, raw, field, judged, times, for_each, optional, systems, wrong_id}
+use Rattle.mt1.specs.Parse.{Outcome, got, bad, Parser, ◌>>=◌, ret, raw, field, judged, times, for_each, optional, systems, wrong_id}
 use Rattle.mt1.specs.Message.{Header, has_orbit, has_clock, has_subset, has_code, has_phase, System, count, cell_bits, cells_of, Mask, Subset, Block, Message}
 use Rattle.mt1.specs.Mt1.{unless, known, system, interval, block, orbits, clocks, ids, subset_system, subset, codes, phases, used, or_mask, Lent, lent_for, message}
 use Rattle.mt1.proofs.Spans.{Span}
 use Rattle.mt1.specs.Encode.{each, header_bits, block_bits, orbits_bits, clocks_bits, subsets_bits, codes_bits, phases_bits}
-use Rattle.mt1.specs.Valid.{IdsOk, SystemOk, Ok}
+use Rattle.mt1.specs.Valid.{IdsOk, SystemOk, Ok as ValidMessage}
 use Rattle.mt1.specs.Records.{at, of_id}
 
--- ---- fields
-abbrev pub field_answer : Outcome ℕ → Field
-field_answer (got v end) = field-answer.Got v
-field_answer (bad r) = field-answer.Refused r
+-- ---- fields: what is answered where bits are there, with a number that is read, and with the place behind what is passed over
+abbrev pub there : {A : Type 0} → Outcome A → Result (Unit {0}) RefusalAt
+there (got x end) = Ok tt
+there (bad r) = Err r
 
-abbrev pub field_refusal : Field → RefusalAt
-field_refusal (field-answer.Got v) = refuse refusal.Short 0
-field_refusal (field-answer.Refused r) = r
+abbrev pub field_answer : Outcome ℕ → Result ℕ RefusalAt
+field_answer (got v end) = Ok v
+field_answer (bad r) = Err r
 
-abbrev pub step_of : {A : Type 0} → Outcome A → Step
-step_of (got x end) = step.At end
-step_of (bad r) = step.Refused r
-
-abbrev pub step_refusal : Step → RefusalAt
-step_refusal (step.At end) = refuse refusal.Short 0
-step_refusal (step.Refused r) = r
+abbrev pub step_of : {A : Type 0} → Outcome A → Result ℕ RefusalAt
+step_of (got x end) = Ok end
+step_of (bad r) = Err r
 
 -- ---- a mask: what the plan keeps of a system whose satellite mask stands at a place
 abbrev pub system_plan : System → ℕ → SystemPlan
-system_plan s place = record { id = s.id; place = place; satellites = count s.satellites; signals = count s.signals; flag = s.cell_flag; cells = count (cells_of s) }
+system_plan s place = record { id = s.id; place = place; satellites = count s.satellites; signals = count s.signals; flag = eqb s.cell_flag 1; cells = count (cells_of s) }
 
-abbrev pub system_answer : ℕ → Outcome System → SystemRead
-system_answer place (got s end) = system-read.Got (system_plan s place) end
-system_answer place (bad r) = system-read.Refused r
+abbrev pub system_answer : ℕ → Outcome System → Result (Read SystemPlan) RefusalAt
+system_answer place (got s end) = Ok (record { plan = system_plan s place; end = end })
+system_answer place (bad r) = Err r
 
 -- a system from its cell mask on
 unfoldable pub system_end : ℕ → List Bool → List Bool → ℕ → Parser System
@@ -68,7 +51,7 @@ system_end id satellites signals flag = do
 
 -- the systems of a mask whose first bit stands at a place: of each the satellite mask stands behind 4 bits of GNSS ID
 abbrev pub plan_of : Option System → ℕ → SystemPlan
-plan_of none place = record { id = 0; place = 0; satellites = 0; signals = 0; flag = 0; cells = 0 }
+plan_of none place = record { id = 0; place = 0; satellites = 0; signals = 0; flag = false; cells = 0 }
 plan_of (some s) place = system_plan s place
 
 abbrev pub cells_length : Option System → ℕ
@@ -83,13 +66,9 @@ mask_plan ss place = record {
   second = plan_of (at ss 1) (place + 8 + (60 + cells_length (at ss 0)) + 4);
 }
 
-abbrev pub mask_answer : ℕ → Outcome Mask → MaskRead
-mask_answer place (got m end) = mask-read.Got (mask_plan m.systems place) end
-mask_answer place (bad r) = mask-read.Refused r
-
-abbrev pub mask_refusal : MaskRead → RefusalAt
-mask_refusal (mask-read.Got plan end) = refuse refusal.Short 0
-mask_refusal (mask-read.Refused r) = r
+abbrev pub mask_answer : ℕ → Outcome Mask → Result (Read MaskPlan) RefusalAt
+mask_answer place (got m end) = Ok (record { plan = mask_plan m.systems place; end = end })
+mask_answer place (bad r) = Err r
 
 -- a plan of systems that a mask can have, or of none
 pub record MaskOf (ss : List System) (place : ℕ) (plan : MaskPlan) : Type 0 where
@@ -101,14 +80,10 @@ pub record MaskOf (ss : List System) (place : ℕ) (plan : MaskPlan) : Type 0 wh
 abbrev pub MaskMade : MaskPlan → Type 0
 MaskMade plan = (ss : List System) × (place : ℕ) × MaskOf ss place plan
 
-abbrev pub system_refusal : SystemRead → RefusalAt
-system_refusal (system-read.Got plan end) = refuse refusal.Short 0
-system_refusal (system-read.Refused r) = r
-
 -- behind the systems
-abbrev pub mask_end : MaskPlan → Outcome ℕ → MaskRead
-mask_end plan (got v end) = mask-read.Got plan end
-mask_end plan (bad r) = mask-read.Refused r
+abbrev pub mask_end : MaskPlan → Outcome ℕ → Result (Read MaskPlan) RefusalAt
+mask_end plan (got v end) = Ok (record { plan = plan; end = end })
+mask_end plan (bad r) = Err r
 
 -- a mask's second system, behind one of an ID, and the end of the mask
 unfoldable pub second_system : ℕ → Parser System
@@ -119,31 +94,25 @@ second_system came = do
   reserved ← field 6
   ret s
 
-abbrev pub second_answer : SystemPlan → ℕ → Outcome System → MaskRead
-second_answer first place (got s end) = mask-read.Got (record { systems = 2; first = first; second = system_plan s (place + 4) }) end
-second_answer first place (bad r) = mask-read.Refused r
+abbrev pub second_answer : SystemPlan → ℕ → Outcome System → Result (Read MaskPlan) RefusalAt
+second_answer first place (got s end) = Ok (record { plan = record { systems = 2; first = first; second = system_plan s (place + 4) }; end = end })
+second_answer first place (bad r) = Err r
 
--- ---- blocks: the widths of an item's fields, each small
-abbrev pub widths_of : Widths → List ℕ
-widths_of w = w.a ∷ w.b ∷ w.c ∷ w.d ∷ []
-
-pub record Small (w : Widths) : Type 0 where
-  pub a : w.a ≤ 13
-  pub b : w.b ≤ 13
-  pub c : w.c ≤ 13
-  pub d : w.d ≤ 13
-
--- an interval, multipliers, the items of one system and of another
+-- ---- blocks: an interval, multipliers, the items of one system and of another
 unfoldable pub skipped_block : ℕ → ℕ → List ℕ → ℕ → List ℕ → Parser (List (List ℕ))
 unfolding ◌>>=◌ field times for_each interval
 skipped_block multipliers n v m w =
-    interval >>= λ i. times multipliers (for_each (2 ∷ 0 ∷ 0 ∷ 0 ∷ []) field) >>= λ ms. times n (for_each v field) >>= λ xs. times m (for_each w field)
+    interval >>= λ i. times multipliers (for_each (2 ∷ []) field) >>= λ ms. times n (for_each v field) >>= λ xs. times m (for_each w field)
 
 -- ---- where things stand
--- the bits of what is there stand at a place; what is not there has place 0
-abbrev pub Stands : {A : Type 0} → List Bool → ℕ → (A → List Bool) → Option A → Type 0
-Stands bs place f none = place ≡ 0
-Stands bs place f (some x) = (0 < place) × ((end : ℕ) × Span bs place (f x) end)
+-- the place of what may be missing
+abbrev pub Place : Type 0
+Place = Maybe ℕ
+
+-- the bits of what is there stand at a place; what is not there has none
+abbrev pub Stands : {A : Type 0} → List Bool → Place → (A → List Bool) → Option A → Type 0
+Stands bs place f none = place ≡ None
+Stands bs place f (some x) = (p : ℕ) × (place ≡ Some p) × ((end : ℕ) × Span bs p (f x) end)
 
 -- a system behind its GNSS ID, and of the subset
 unfoldable pub body_bits : System → List Bool
@@ -154,12 +123,17 @@ unfoldable pub part_bits : Subset → List Bool
 unfolding bits each
 part_bits s = bits 2 s.multiplier ++ (s.chosen ++ each (bits 13) s.clocks)
 
+-- the same of a system of a mask, which has a place where it is there
+abbrev pub StandsAt : List Bool → ℕ → Option System → Type 0
+StandsAt bs place none = Unit {0}
+StandsAt bs place (some s) = (end : ℕ) × Span bs place (body_bits s) end
+
 -- the mask's systems stand where the plan says
 pub record MaskStands (bs : List Bool) (ss : List System) (plan : MaskPlan) : Type 0 where
   pub made : (place : ℕ) × MaskOf ss place plan
   pub near : made.0 ≤ 32
-  pub first : Stands bs plan.first.place body_bits (at ss 0)
-  pub second : Stands bs plan.second.place body_bits (at ss 1)
+  pub first : StandsAt bs plan.first.place (at ss 0)
+  pub second : StandsAt bs plan.second.place (at ss 1)
 
 -- ---- the subset
 abbrev pub chain : {A B : Type 0} → Option A → (A → Option B) → Option B
@@ -176,16 +150,12 @@ unfolding ◌>>=◌ judged wrong_id subset_system
 part_of ss came = judged 4 (wrong_id (ids ss) came) >>= λ id. subset_system ss id
 
 abbrev pub with_part : SubsetPlan → MaskPlan → ℕ → ℕ → SubsetPlan
-with_part plan mask id place = cond (eqb id mask.first.id) (record { first = place; second = plan.second }) (record { first = plan.first; second = place })
+with_part plan mask id place = cond (eqb id mask.first.id) (record { first = Some place; second = plan.second }) (record { first = plan.first; second = Some place })
 
-abbrev pub PartReads : List System → MaskPlan → ℕ → SubsetPlan → List Bool → ℕ → PartRead → Type 0
-PartReads ss mask came plan bs place (part-read.Got plan' id end) =
-    (s : Subset) × (part_of ss (came ∷ []) bs place ≡ got s end) × (s.id ≡ id) × (plan' ≡ with_part plan mask id (place + 4)) × Span bs (place + 4) (part_bits s) end
-PartReads ss mask came plan bs place (part-read.Refused r) = part_of ss (came ∷ []) bs place ≡ bad r
-
-abbrev pub part_refusal : PartRead → RefusalAt
-part_refusal (part-read.Got plan id end) = refuse refusal.Short 0
-part_refusal (part-read.Refused r) = r
+abbrev pub PartReads : List System → MaskPlan → List ℕ → SubsetPlan → List Bool → ℕ → Result Part RefusalAt → Type 0
+PartReads ss mask came plan bs place (Ok part) =
+    (s : Subset) × (part_of ss came bs place ≡ got s part.end) × (s.id ≡ part.id) × (part.plan ≡ with_part plan mask part.id (place + 4)) × Span bs (place + 4) (part_bits s) part.end
+PartReads ss mask came plan bs place (Err r) = part_of ss came bs place ≡ bad r
 
 -- the parts of the mask's systems
 pub record PartsStand (bs : List Bool) (ss : List System) (subs : List Subset) (plan : SubsetPlan) : Type 0 where
@@ -193,13 +163,13 @@ pub record PartsStand (bs : List Bool) (ss : List System) (subs : List Subset) (
   pub second : Stands bs plan.second part_bits (chain (at ss 1) (λ s. of_id subs s.id))
 
 -- what a reading of its systems tells, and of the whole of it
-abbrev pub PartsRead : List System → ℕ → List Bool → ℕ → SubsetRead → Type 0
-PartsRead ss n bs place (subset-read.Got plan end) = (subs : List Subset) × (systems (ids ss) (subset_system ss) [] n bs place ≡ got subs end) × PartsStand bs ss subs plan
-PartsRead ss n bs place (subset-read.Refused r) = systems (ids ss) (subset_system ss) [] n bs place ≡ bad r
+abbrev pub PartsRead : List System → ℕ → List Bool → ℕ → Result (Read SubsetPlan) RefusalAt → Type 0
+PartsRead ss n bs place (Ok read) = (subs : List Subset) × (systems (ids ss) (subset_system ss) [] n bs place ≡ got subs read.end) × PartsStand bs ss subs read.plan
+PartsRead ss n bs place (Err r) = systems (ids ss) (subset_system ss) [] n bs place ≡ bad r
 
-abbrev pub SubsetReads : List System → List Bool → ℕ → SubsetRead → Type 0
-SubsetReads ss bs place (subset-read.Got plan end) = (b : Block (List Subset)) × (block (subset ss) bs place ≡ got b end) × PartsStand bs ss b.body plan
-SubsetReads ss bs place (subset-read.Refused r) = block (subset ss) bs place ≡ bad r
+abbrev pub SubsetReads : List System → List Bool → ℕ → Result (Read SubsetPlan) RefusalAt → Type 0
+SubsetReads ss bs place (Ok read) = (b : Block (List Subset)) × (block (subset ss) bs place ≡ got b read.end) × PartsStand bs ss b.body read.plan
+SubsetReads ss bs place (Err r) = block (subset ss) bs place ≡ bad r
 
 -- ---- the blocks behind the mask
 unfoldable pub blocks : Header → Option Mask → List System → Parser Message
@@ -221,19 +191,15 @@ pub record BlocksStand (bs : List Bool) (ss : List System) (m : Message) (plan :
   pub phase : Stands bs plan.phase (block_bits phases_bits) m.phases
 
 -- what a first pass over the blocks tells
-abbrev pub BlocksRead : Header → Option Mask → List System → List Bool → ℕ → Bool → MaskPlan → PlanRead → Type 0
-BlocksRead h own ss bs place lent mask (plan-read.Got plan) =
+abbrev pub BlocksRead : Header → Option Mask → List System → List Bool → ℕ → Bool → MaskPlan → Result Plan RefusalAt → Type 0
+BlocksRead h own ss bs place lent mask (Ok plan) =
     (m : Message) × (end : ℕ) × (blocks h own ss bs place ≡ got m end) × BlocksStand bs ss m plan × (plan.lent ≡ lent) × (plan.mask ≡ mask)
-BlocksRead h own ss bs place lent mask (plan-read.Refused r) = blocks h own ss bs place ≡ bad r
-
-abbrev pub subset_refusal : SubsetRead → RefusalAt
-subset_refusal (subset-read.Got plan end) = refuse refusal.Short 0
-subset_refusal (subset-read.Refused r) = r
+BlocksRead h own ss bs place lent mask (Err r) = blocks h own ss bs place ≡ bad r
 
 -- the subset, if its flag is 1
-abbrev pub SubsetReadIf : Bool → List System → List Bool → ℕ → SubsetRead → Type 0
+abbrev pub SubsetReadIf : Bool → List System → List Bool → ℕ → Result (Read SubsetPlan) RefusalAt → Type 0
 SubsetReadIf true ss bs place r = SubsetReads ss bs place r
-SubsetReadIf false ss bs place r = r ≡ subset-read.Got (record { first = 0; second = 0 }) place
+SubsetReadIf false ss bs place r = r ≡ Ok (record { plan = record { first = None; second = None }; end = place })
 
 -- the octets in which the mask stands
 abbrev pub source : Bool → List ℕ → List ℕ → List ℕ
@@ -242,24 +208,20 @@ source false octets lent = octets
 
 -- a message that is read, and where it stands
 pub record Planned (lent : Lent) (octets sourced : List ℕ) (m : Message) (ss : List System) (plan : Plan) : Type 0 where
-  pub ok : Ok (lent_for lent m.header.mask_id) ss m
+  pub ok : ValidMessage (lent_for lent m.header.mask_id) ss m
   pub header : Span (bits_of octets) 0 (header_bits m.header) 32
   pub mask : MaskStands (bits_of sourced) ss plan.mask
   pub blocks : BlocksStand (bits_of octets) ss m plan
   pub short : length octets ≤ 20480
 
 -- what a first pass tells, over what is behind a header where the lent mask is used, and over the whole message
-abbrev pub LentRead : Lent → Header → List ℕ → PlanRead → Type 0
-LentRead lent h octets (plan-read.Got plan) =
+abbrev pub LentRead : Lent → Header → List ℕ → Result Plan RefusalAt → Type 0
+LentRead lent h octets (Ok plan) =
     (m : Message) × (end : ℕ) × (mask : Mask) × (lent_for lent h.mask_id ≡ some mask) × (blocks h none mask.systems (bits_of octets) 32 ≡ got m end)
     × BlocksStand (bits_of octets) mask.systems m plan × (plan.lent ≡ true) × MaskStands (bits_of lent.octets) mask.systems plan.mask
-LentRead lent h octets (plan-read.Refused r) = (or_mask (used (lent_for lent h.mask_id) h none) >>= blocks h none) (bits_of octets) 32 ≡ bad r
+LentRead lent h octets (Err r) = (or_mask (used (lent_for lent h.mask_id) h none) >>= blocks h none) (bits_of octets) 32 ≡ bad r
 
-abbrev pub MessageRead : Lent → List ℕ → PlanRead → Type 0
-MessageRead lent octets (plan-read.Got plan) =
+abbrev pub MessageRead : Lent → List ℕ → Result Plan RefusalAt → Type 0
+MessageRead lent octets (Ok plan) =
     (m : Message) × (end : ℕ) × (ss : List System) × (message lent (bits_of octets) 0 ≡ got m end) × Planned lent octets (source plan.lent octets lent.octets) m ss plan
-MessageRead lent octets (plan-read.Refused r) = message lent (bits_of octets) 0 ≡ bad r
-
-abbrev pub plan_refusal : PlanRead → RefusalAt
-plan_refusal (plan-read.Got plan) = refuse refusal.Short 0
-plan_refusal (plan-read.Refused r) = r
+MessageRead lent octets (Err r) = message lent (bits_of octets) 0 ≡ bad r

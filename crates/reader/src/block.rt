@@ -1,107 +1,81 @@
 // The blocks behind the mask: how long they are, and that each field is there.
 ghost use Rattle.std.specs.Prelude.{◌≡◌, ◌≤◌, length};
 ghost use Rattle.bits.specs.Bits.{bits_of};
-ghost use Rattle.mt1.specs.Parse.{times, for_each, field};
+ghost use Rattle.mt1.specs.Parse.{times, for_each, raw, field};
 ghost use Rattle.mt1.specs.Mt1.{interval};
-ghost use Rattle.reader.specs.Steps.{step_of, widths_of, Small, skipped_block};
+ghost use Rattle.reader.specs.Steps.{step_of, MaskMade, skipped_block};
 
-use crate::field::{Field, Step, field_refusal, read_field, skip, step_refusal};
-use mt1::{IntervalAnswer, interval_seconds, refuse};
+use crate::field::{need, read_field};
+use crate::mask::MaskPlan;
+use mt1::{RefusalAt, interval_seconds, refuse};
 use refusal::Refusal;
 
-// The widths of an item's fields in their order, 0 behind the last.
+// The octets of a message, and the plan of the mask by which the blocks in them are read.
 #[derive(Clone, Copy)]
-pub struct Widths {
-    pub a: usize,
-    pub b: usize,
-    pub c: usize,
-    pub d: usize,
+pub struct Blocks<'a> {
+    pub octets: &'a [u8],
+    pub mask: MaskPlan,
+    ghost short: { length octets.now ≤ 20480 },
+    ghost made: { ∥ MaskMade mask ∥₁ },
 }
 
-// An interval at a place.
-pub fn skip_interval(octets: &[u8], at: usize) -> Step
-    requires { at ≤ 163840 }
-    ensures { result ≡ step_of (interval (bits_of octets.now) at) }
-{
-    let f = read_field(octets, at, 4);
-    let Field::Got(index) = f else {
-        return Step::Refused(field_refusal(f));
-    };
-    let known = interval_seconds(index);
-    let IntervalAnswer::Seconds(_) = known else {
-        return Step::Refused(refuse(Refusal::Validity, at));
-    };
-    Step::At(at + 4)
-}
-
-// An item's fields.
-fn skip_item(octets: &[u8], at: usize, w: Widths) -> Step
-    requires { (at ≤ 163840) × Small w }
-    ensures { result ≡ step_of (for_each (widths_of w) field (bits_of octets.now) at) }
-{
-    let s = skip(octets, at, w.a);
-    let Step::At(at_b) = s else {
-        return Step::Refused(step_refusal(s));
-    };
-    let t = skip(octets, at_b, w.b);
-    let Step::At(at_c) = t else {
-        return Step::Refused(step_refusal(t));
-    };
-    let u = skip(octets, at_c, w.c);
-    let Step::At(at_d) = u else {
-        return Step::Refused(step_refusal(u));
-    };
-    skip(octets, at_d, w.d)
-}
-
-// n items in a row.
-pub fn skip_items(octets: &[u8], at: usize, n: usize, w: Widths) -> Step
-    requires { (at ≤ 163840) × (length octets.now ≤ 20480) × Small w }
-    ensures { result ≡ step_of (times n (for_each (widths_of w) field) (bits_of octets.now) at) }
-{
-    let mut place = at;
-    let mut k: usize = 0;
-    while k < n {
-        let s = skip_item(octets, place, w);
-        let Step::At(end) = s else {
-            return Step::Refused(step_refusal(s));
-        };
-        place = end;
-        k += 1;
+impl Blocks<'_> {
+    // The place behind n bits. Of these octets there are few; the `skip` for a mask, which may stand in any number of octets, asks for a small place instead.
+    pub fn skip(&self, at: usize, n: usize) -> Result<usize, RefusalAt>
+        ensures { result ≡ step_of (raw n (bits_of self.now.octets.now) at) }
+    {
+        need(self.octets, at, n)?;
+        Ok(at + n)
     }
-    Step::At(place)
-}
 
-// A block: its interval, the multipliers of as many systems, the items of the first system and of the second.
-pub fn skip_block(
-    octets: &[u8],
-    at: usize,
-    multipliers: usize,
-    first: usize,
-    v: Widths,
-    second: usize,
-    w: Widths,
-) -> Step
-    requires { (at ≤ 163840) × (length octets.now ≤ 20480) × Small v × Small w }
-    ensures { result ≡ step_of (skipped_block multipliers first (widths_of v) second (widths_of w) (bits_of octets.now) at) }
-{
-    let s = skip_interval(octets, at);
-    let Step::At(behind_interval) = s else {
-        return Step::Refused(step_refusal(s));
-    };
-    let two = Widths {
-        a: 2,
-        b: 0,
-        c: 0,
-        d: 0,
-    };
-    let t = skip_items(octets, behind_interval, multipliers, two);
-    let Step::At(behind_multipliers) = t else {
-        return Step::Refused(step_refusal(t));
-    };
-    let u = skip_items(octets, behind_multipliers, first, v);
-    let Step::At(behind_first) = u else {
-        return Step::Refused(step_refusal(u));
-    };
-    skip_items(octets, behind_first, second, w)
+    // An interval at a place.
+    pub fn skip_interval(&self, at: usize) -> Result<usize, RefusalAt>
+        ensures { result ≡ step_of (interval (bits_of self.now.octets.now) at) }
+    {
+        let index = read_field(self.octets, at, 4)?;
+        let Ok(_) = interval_seconds(index) else {
+            return Err(refuse(Refusal::Validity, at));
+        };
+        Ok(at + 4)
+    }
+
+    // An item: fields of these widths.
+    fn skip_item(&self, at: usize, widths: &[usize]) -> Result<usize, RefusalAt>
+        ensures { result ≡ step_of (for_each widths.now field (bits_of self.now.octets.now) at) }
+    {
+        let mut place = at;
+        for w in widths {
+            place = self.skip(place, *w)?;
+        }
+        Ok(place)
+    }
+
+    // n items in a row.
+    pub fn skip_items(&self, at: usize, n: usize, widths: &[usize]) -> Result<usize, RefusalAt>
+        ensures { result ≡ step_of (times n (for_each widths.now field) (bits_of self.now.octets.now) at) }
+    {
+        let mut place = at;
+        for k in 0..n {
+            place = self.skip_item(place, widths)?;
+        }
+        Ok(place)
+    }
+
+    // A block: its interval, the multipliers of as many systems, the items of the first system and of the second.
+    pub fn skip_block(
+        &self,
+        at: usize,
+        multipliers: usize,
+        first: usize,
+        v: &[usize],
+        second: usize,
+        w: &[usize],
+    ) -> Result<usize, RefusalAt>
+        ensures { result ≡ step_of (skipped_block multipliers first v.now second w.now (bits_of self.now.octets.now) at) }
+    {
+        let behind_interval = self.skip_interval(at)?;
+        let behind_multipliers = self.skip_items(behind_interval, multipliers, &[2])?;
+        let behind_first = self.skip_items(behind_multipliers, first, v)?;
+        self.skip_items(behind_first, second, w)
+    }
 }

@@ -11,4 +11,4 @@ mod record;
 mod subset;
 
 pub use plan::lacks_mask;
-pub use reading::{MOST_OCTETS, RECORDS_OCTETS, ReadAnswer, read, read_octets};
+pub use reading::{MOST_OCTETS, RECORDS_OCTETS, read, read_octets};

@@ -2,137 +2,95 @@
 // every refusal of the reader with its place, cut messages, lent masks.
 #![tactic(auto)]
 
-ghost use Rattle.std.specs.Prelude.{◌≤◌, ◌<◌};
-
 mod script;
 
-use reader::{RECORDS_OCTETS, ReadAnswer};
-use script::{DATA, OCTETS, READINGS, SCRIPT};
+use mt1::RefusalAt;
+use reader::RECORDS_OCTETS;
+use script::{DATA, SCRIPT};
 use std::io;
+
+// Where octets begin in the data, and how many they are.
+#[derive(Clone, Copy)]
+pub struct Window(usize, usize);
+
+// A message and a lent mask with its Mask ID.
+#[derive(Clone, Copy)]
+pub struct Reading {
+    message: Window,
+    mask_id: u64,
+    mask: Window,
+}
 
 // Where the message of two systems and all blocks begins.
 const FULL: usize = 1347;
 
-// A place of the data, and the place n octets behind it, as far as there are data.
-fn start_of(place: usize) -> usize
-    ensures { result ≤ 2672 }
-{
-    if place > OCTETS { OCTETS } else { place }
+// No octets.
+const NONE: Window = Window(0, 0);
+
+// What a window shows of the data, as far as there are data.
+fn show(data: &[u8], window: Window) -> &[u8] {
+    let start = window.0.min(data.len());
+    let behind = &data[start..];
+    &behind[..window.1.min(behind.len())]
 }
 
-fn end_of(start: usize, n: usize) -> usize
-    requires { start ≤ 2672 }
-    ensures { (start ≤ result) × (result ≤ 2672) }
-{
-    if n > OCTETS - start {
-        OCTETS
-    } else {
-        start + n
-    }
-}
-
-fn wide(x: u8) -> u64
-    ensures { result < 256 }
-{
-    x as u64
-}
-
-// A number that any octet of the buffer alters: of each octet, 31 times what came before and the octet, modulo 1,000,000,007.
-fn digest(octets: &[u8]) -> u64 {
-    let mut d: u64 = 0;
-    let mut i: usize = 0;
-    while i < octets.len() {
-        d = (d % 1000000007 * 31 + wide(octets[i])) % 1000000007;
-        i += 1;
-    }
-    d
-}
-
-fn print_reading(rt: &impl Print, answer: ReadAnswer, buffer: &[u8]) -> io::Result<()> {
+// The answer, and the digest of the whole buffer.
+fn print_reading(rt: &impl Print, answer: Result<u64, RefusalAt>, buffer: &[u8]) -> io::Result<()> {
     match answer {
-        ReadAnswer::Records(n) => {
-            stdio::print_decimal(rt, n)?;
-            stdio::write_all(rt, b" records")?;
-        }
-        ReadAnswer::Refused(r) => {
-            let why = r.why;
-            stdio::write_all(rt, b"refused ")?;
-            stdio::print_decimal(rt, refusal::number(why))?;
-            stdio::write_all(rt, b" at ")?;
-            stdio::print_decimal(rt, r.place as u64)?;
-        }
+        Ok(n) => print!(rt; "{n} records")?,
+        Err(refused) => print!(rt;
+            "refused {} at {}",
+            refusal::number(refused.why),
+            refused.place
+        )?,
     }
-    stdio::write_all(rt, b", digest ")?;
-    stdio::print_decimal(rt, digest(buffer))?;
-    stdio::write_all(rt, b"\n")
+    println!(rt; ", digest {}", stdio::digest(buffer))
 }
 
-// A message and a lent mask, each by where it begins in the data and how long it is, read into a buffer of octets 238.
-fn print_read(
-    rt: &impl Print,
-    message: usize,
-    octets: usize,
-    id: u64,
-    mask: usize,
-    lent: usize,
-) -> io::Result<()> {
+// A reading into a buffer of octets 238.
+fn print_read(rt: &impl Print, reading: Reading) -> io::Result<()> {
     let data = DATA;
-    let masks = DATA;
-    let message_start = start_of(message);
-    let message_end = end_of(message_start, octets);
-    let mask_start = start_of(mask);
-    let mask_end = end_of(mask_start, lent);
     let mut records = [0xEE; RECORDS_OCTETS];
     let answer = reader::read(
-        &data[message_start..message_end],
-        id,
-        &masks[mask_start..mask_end],
+        show(&data, reading.message),
+        reading.mask_id,
+        show(&data, reading.mask),
         &mut records,
     );
     print_reading(rt, answer, &records)
 }
 
-// Reading i of the script.
-fn print_scripted(rt: &impl Print, i: usize) -> io::Result<()>
-    requires { i < 66 }
-{
-    let script = SCRIPT;
-    let at = i * 5;
-    stdio::print_decimal(rt, i as u64 + 1)?;
-    stdio::write_all(rt, b": ")?;
-    print_read(
-        rt,
-        script[at],
-        script[at + 1],
-        script[at + 2] as u64,
-        script[at + 3],
-        script[at + 4],
-    )
+// The readings of the script, by number.
+fn print_scripted(rt: &impl Print) -> io::Result<()> {
+    for (i, &reading) in SCRIPT.iter().enumerate() {
+        print!(rt; "{}: ", i + 1)?;
+        print_read(rt, reading)?;
+    }
+    Ok(())
 }
 
-// The message of two systems, cut to n octets.
-fn print_cut(rt: &impl Print, n: usize) -> io::Result<()> {
-    stdio::write_all(rt, b"the first ")?;
-    stdio::print_decimal(rt, n as u64)?;
-    stdio::write_all(rt, b" octets: ")?;
-    print_read(rt, FULL, n, 0, 0, 0)
+// The message of two systems, cut to each number of octets up to all.
+fn print_cuts(rt: &impl Print) -> io::Result<()> {
+    for n in 0..=106 {
+        print!(rt; "the first {n} octets: ")?;
+        print_read(
+            rt,
+            Reading {
+                message: Window(FULL, n),
+                mask_id: 0,
+                mask: NONE,
+            },
+        )?;
+    }
+    Ok(())
 }
 
 fn main(rt: HostRuntime) -> io::Result<()> {
-    let mut i: usize = 0;
-    while i < READINGS {
-        print_scripted(&rt, i)?;
-        i += 1;
-    }
-    let mut n: usize = 0;
-    while n <= 106 {
-        print_cut(&rt, n)?;
-        n += 1;
-    }
+    print_scripted(&rt)?;
+    print_cuts(&rt)?;
     let data = DATA;
     let mut small = [0xEE; 21807];
-    let none = [0u8; 0];
-    let answer = reader::read(&data[..53], 0, &none, &mut small);
-    stdio::write_all(&rt, b"a buffer of 21,807 octets: ")?;
+    let answer = reader::read(&data[..53], 0, &[], &mut small);
+    print!(rt; "a buffer of 21,807 octets: ")?;
     print_reading(&rt, answer, &small)
 }

@@ -1,9 +1,7 @@
-// The octets of messages and lent masks, and the readings: of each where its message begins and how long it is, the Mask ID, and the same of the lent mask.
-pub const OCTETS: usize = 2672;
+// The octets of messages and lent masks, and the readings.
+use crate::{Reading, Window};
 
-pub const READINGS: usize = 66;
-
-pub const DATA: [u8; OCTETS] = [
+pub const DATA: [u8; 2672] = [
     0x00, 0xAA, 0x00, 0x22, 0x12, 0x80, 0x00, 0x00, 0x00, 0x00, 0x80, 0x00, 0x00, 0x15, 0xFF, 0xEA,
     0xAA, 0xAA, 0xAA, 0xAA, 0xAA, 0xAA, 0xAA, 0xAA, 0xAA, 0xAA, 0xAA, 0xAA, 0xAA, 0xAA, 0xAA, 0xAA,
     0xAA, 0xAA, 0xAA, 0xAA, 0xAA, 0xAA, 0xAA, 0xAA, 0xAA, 0xAA, 0xAA, 0xAA, 0xAA, 0xAA, 0xAA, 0xAA,
@@ -173,137 +171,401 @@ pub const DATA: [u8; OCTETS] = [
     0x1D, 0x00, 0xFC, 0x08, 0x00, 0x45, 0x02, 0x50, 0x13, 0xC0, 0xA0, 0x05, 0x50, 0x2D, 0x01, 0x7C,
 ];
 
-pub const SCRIPT: [usize; READINGS * 5] = [
+pub const SCRIPT: [Reading; 66] = [
     // document 01's example
-    0, 53, 0, 0, 0,
+    Reading {
+        message: Window(0, 53),
+        mask_id: 0,
+        mask: Window(0, 0),
+    },
     // no octets
-    0, 0, 0, 0, 0,
+    Reading {
+        message: Window(0, 0),
+        mask_id: 0,
+        mask: Window(0, 0),
+    },
     // 52 octets
-    53, 52, 0, 0, 0,
+    Reading {
+        message: Window(53, 52),
+        mask_id: 0,
+        mask: Window(0, 0),
+    },
     // 54 octets
-    105, 54, 0, 0, 0,
+    Reading {
+        message: Window(105, 54),
+        mask_id: 0,
+        mask: Window(0, 0),
+    },
     // 1,749 octets are too many pages (33)
-    0, 1749, 0, 0, 0,
+    Reading {
+        message: Window(0, 1749),
+        mask_id: 0,
+        mask: Window(0, 0),
+    },
     // time of hour 3600
-    159, 53, 0, 0, 0,
+    Reading {
+        message: Window(159, 53),
+        mask_id: 0,
+        mask: Window(0, 0),
+    },
     // no flag: the header alone
-    212, 53, 0, 0, 0,
+    Reading {
+        message: Window(212, 53),
+        mask_id: 0,
+        mask: Window(0, 0),
+    },
     // clock full, no mask lent
-    265, 53, 5, 0, 0,
+    Reading {
+        message: Window(265, 53),
+        mask_id: 5,
+        mask: Window(0, 0),
+    },
     // clock full, a mask of another ID lent
-    265, 53, 6, 318, 10,
+    Reading {
+        message: Window(265, 53),
+        mask_id: 6,
+        mask: Window(318, 10),
+    },
     // clock full, a mask of ID 37 lent for 5
-    265, 53, 37, 318, 10,
+    Reading {
+        message: Window(265, 53),
+        mask_id: 37,
+        mask: Window(318, 10),
+    },
     // clock full, a lent mask that is cut
-    265, 53, 5, 4, 9,
+    Reading {
+        message: Window(265, 53),
+        mask_id: 5,
+        mask: Window(4, 9),
+    },
     // clock full, a lent mask of no system
-    265, 53, 5, 53, 13,
+    Reading {
+        message: Window(265, 53),
+        mask_id: 5,
+        mask: Window(53, 13),
+    },
     // clock full, a lent mask, octets behind it
-    328, 53, 5, 381, 12,
+    Reading {
+        message: Window(328, 53),
+        mask_id: 5,
+        mask: Window(381, 12),
+    },
     // clock full: do not use
-    393, 53, 5, 318, 10,
+    Reading {
+        message: Window(393, 53),
+        mask_id: 5,
+        mask: Window(318, 10),
+    },
     // COUNT: no system
-    446, 53, 0, 0, 0,
+    Reading {
+        message: Window(446, 53),
+        mask_id: 0,
+        mask: Window(0, 0),
+    },
     // COUNT: three systems
-    499, 53, 0, 0, 0,
+    Reading {
+        message: Window(499, 53),
+        mask_id: 0,
+        mask: Window(0, 0),
+    },
     // SYSTEM: a reserved ID
-    552, 53, 0, 0, 0,
+    Reading {
+        message: Window(552, 53),
+        mask_id: 0,
+        mask: Window(0, 0),
+    },
     // TWICE in the mask
-    605, 53, 0, 0, 0,
+    Reading {
+        message: Window(605, 53),
+        mask_id: 0,
+        mask: Window(0, 0),
+    },
     // a reserved ID behind a good one
-    658, 53, 0, 0, 0,
+    Reading {
+        message: Window(658, 53),
+        mask_id: 0,
+        mask: Window(0, 0),
+    },
     // NAVMSG
-    711, 53, 0, 0, 0,
+    Reading {
+        message: Window(711, 53),
+        mask_id: 0,
+        mask: Window(0, 0),
+    },
     // SHORT: a cell mask of 40 rows of 16
-    764, 53, 0, 0, 0,
+    Reading {
+        message: Window(764, 53),
+        mask_id: 0,
+        mask: Window(0, 0),
+    },
     // no satellites
-    817, 53, 0, 0, 0,
+    Reading {
+        message: Window(817, 53),
+        mask_id: 0,
+        mask: Window(0, 0),
+    },
     // no signals
-    870, 53, 0, 0, 0,
+    Reading {
+        message: Window(870, 53),
+        mask_id: 0,
+        mask: Window(0, 0),
+    },
     // VALIDITY in block 1
-    923, 53, 0, 0, 0,
+    Reading {
+        message: Window(923, 53),
+        mask_id: 0,
+        mask: Window(0, 0),
+    },
     // VALIDITY in block 2
-    976, 53, 0, 0, 0,
+    Reading {
+        message: Window(976, 53),
+        mask_id: 0,
+        mask: Window(0, 0),
+    },
     // VALIDITY in block 3
-    1029, 53, 0, 0, 0,
+    Reading {
+        message: Window(1029, 53),
+        mask_id: 0,
+        mask: Window(0, 0),
+    },
     // VALIDITY in block 4
-    1082, 53, 0, 0, 0,
+    Reading {
+        message: Window(1082, 53),
+        mask_id: 0,
+        mask: Window(0, 0),
+    },
     // VALIDITY in block 5
-    1135, 53, 0, 0, 0,
+    Reading {
+        message: Window(1135, 53),
+        mask_id: 0,
+        mask: Window(0, 0),
+    },
     // COUNT: an empty subset
-    1188, 53, 0, 0, 0,
+    Reading {
+        message: Window(1188, 53),
+        mask_id: 0,
+        mask: Window(0, 0),
+    },
     // COUNT: a subset of more systems than the mask
-    1241, 53, 0, 0, 0,
+    Reading {
+        message: Window(1241, 53),
+        mask_id: 0,
+        mask: Window(0, 0),
+    },
     // SYSTEM: a subset of a system that is not in the mask
-    1294, 53, 0, 0, 0,
+    Reading {
+        message: Window(1294, 53),
+        mask_id: 0,
+        mask: Window(0, 0),
+    },
     // two systems, all blocks, cell masks
-    1347, 106, 0, 0, 0,
+    Reading {
+        message: Window(1347, 106),
+        mask_id: 0,
+        mask: Window(0, 0),
+    },
     // the same, the subset the other way round, reserved bits set
-    1453, 106, 0, 0, 0,
+    Reading {
+        message: Window(1453, 106),
+        mask_id: 0,
+        mask: Window(0, 0),
+    },
     // the same, cut to its first page
-    1347, 53, 0, 0, 0,
+    Reading {
+        message: Window(1347, 53),
+        mask_id: 0,
+        mask: Window(0, 0),
+    },
     // TWICE in the subset
-    1559, 53, 0, 0, 0,
+    Reading {
+        message: Window(1559, 53),
+        mask_id: 0,
+        mask: Window(0, 0),
+    },
     // a subset of the second system alone
-    1612, 53, 0, 0, 0,
+    Reading {
+        message: Window(1612, 53),
+        mask_id: 0,
+        mask: Window(0, 0),
+    },
     // 6 orbits in one page
-    1665, 53, 0, 0, 0,
+    Reading {
+        message: Window(1665, 53),
+        mask_id: 0,
+        mask: Window(0, 0),
+    },
     // 7 orbits behind 7 bits of cell mask in one page
-    1718, 53, 0, 0, 0,
+    Reading {
+        message: Window(1718, 53),
+        mask_id: 0,
+        mask: Window(0, 0),
+    },
     // 7 orbits behind 14 bits of cell mask in one page
-    1771, 53, 0, 0, 0,
+    Reading {
+        message: Window(1771, 53),
+        mask_id: 0,
+        mask: Window(0, 0),
+    },
     // 7 orbits behind 21 bits of cell mask in one page
-    1824, 53, 0, 0, 0,
+    Reading {
+        message: Window(1824, 53),
+        mask_id: 0,
+        mask: Window(0, 0),
+    },
     // 7 orbits behind 28 bits of cell mask in one page
-    1877, 53, 0, 0, 0,
+    Reading {
+        message: Window(1877, 53),
+        mask_id: 0,
+        mask: Window(0, 0),
+    },
     // 7 orbits behind 35 bits of cell mask in one page
-    1930, 53, 0, 0, 0,
+    Reading {
+        message: Window(1930, 53),
+        mask_id: 0,
+        mask: Window(0, 0),
+    },
     // 7 orbits behind 42 bits of cell mask in one page
-    1983, 53, 0, 0, 0,
+    Reading {
+        message: Window(1983, 53),
+        mask_id: 0,
+        mask: Window(0, 0),
+    },
     // 7 orbits behind 49 bits of cell mask in one page
-    2036, 53, 0, 0, 0,
+    Reading {
+        message: Window(2036, 53),
+        mask_id: 0,
+        mask: Window(0, 0),
+    },
     // 7 orbits behind 56 bits of cell mask in one page
-    2089, 53, 0, 0, 0,
+    Reading {
+        message: Window(2089, 53),
+        mask_id: 0,
+        mask: Window(0, 0),
+    },
     // 7 orbits behind 63 bits of cell mask in one page
-    2142, 53, 0, 0, 0,
+    Reading {
+        message: Window(2142, 53),
+        mask_id: 0,
+        mask: Window(0, 0),
+    },
     // 7 orbits behind 70 bits of cell mask in one page
-    2195, 53, 0, 0, 0,
+    Reading {
+        message: Window(2195, 53),
+        mask_id: 0,
+        mask: Window(0, 0),
+    },
     // 7 orbits behind 77 bits of cell mask in one page
-    2248, 53, 0, 0, 0,
+    Reading {
+        message: Window(2248, 53),
+        mask_id: 0,
+        mask: Window(0, 0),
+    },
     // 7 orbits behind 84 bits of cell mask in one page
-    2301, 53, 0, 0, 0,
+    Reading {
+        message: Window(2301, 53),
+        mask_id: 0,
+        mask: Window(0, 0),
+    },
     // 7 orbits behind 91 bits of cell mask in one page
-    2354, 53, 0, 0, 0,
+    Reading {
+        message: Window(2354, 53),
+        mask_id: 0,
+        mask: Window(0, 0),
+    },
     // 7 orbits behind 98 bits of cell mask in one page
-    2407, 53, 0, 0, 0,
+    Reading {
+        message: Window(2407, 53),
+        mask_id: 0,
+        mask: Window(0, 0),
+    },
     // 7 orbits behind 105 bits of cell mask in one page
-    2460, 53, 0, 0, 0,
+    Reading {
+        message: Window(2460, 53),
+        mask_id: 0,
+        mask: Window(0, 0),
+    },
     // 7 orbits behind 112 bits of cell mask in one page
-    2513, 53, 0, 0, 0,
+    Reading {
+        message: Window(2513, 53),
+        mask_id: 0,
+        mask: Window(0, 0),
+    },
     // 2 phases
-    2566, 53, 0, 0, 0,
+    Reading {
+        message: Window(2566, 53),
+        mask_id: 0,
+        mask: Window(0, 0),
+    },
     // 25 phases in one page
-    2619, 53, 0, 0, 0,
+    Reading {
+        message: Window(2619, 53),
+        mask_id: 0,
+        mask: Window(0, 0),
+    },
     // 0 octets of a lent mask
-    328, 53, 5, 0, 0,
+    Reading {
+        message: Window(328, 53),
+        mask_id: 5,
+        mask: Window(0, 0),
+    },
     // 1 octets of a lent mask
-    328, 53, 5, 4, 1,
+    Reading {
+        message: Window(328, 53),
+        mask_id: 5,
+        mask: Window(4, 1),
+    },
     // 2 octets of a lent mask
-    328, 53, 5, 4, 2,
+    Reading {
+        message: Window(328, 53),
+        mask_id: 5,
+        mask: Window(4, 2),
+    },
     // 3 octets of a lent mask
-    328, 53, 5, 4, 3,
+    Reading {
+        message: Window(328, 53),
+        mask_id: 5,
+        mask: Window(4, 3),
+    },
     // 4 octets of a lent mask
-    328, 53, 5, 4, 4,
+    Reading {
+        message: Window(328, 53),
+        mask_id: 5,
+        mask: Window(4, 4),
+    },
     // 5 octets of a lent mask
-    328, 53, 5, 4, 5,
+    Reading {
+        message: Window(328, 53),
+        mask_id: 5,
+        mask: Window(4, 5),
+    },
     // 6 octets of a lent mask
-    328, 53, 5, 4, 6,
+    Reading {
+        message: Window(328, 53),
+        mask_id: 5,
+        mask: Window(4, 6),
+    },
     // 7 octets of a lent mask
-    328, 53, 5, 4, 7,
+    Reading {
+        message: Window(328, 53),
+        mask_id: 5,
+        mask: Window(4, 7),
+    },
     // 8 octets of a lent mask
-    328, 53, 5, 4, 8,
+    Reading {
+        message: Window(328, 53),
+        mask_id: 5,
+        mask: Window(4, 8),
+    },
     // 9 octets of a lent mask
-    328, 53, 5, 4, 9,
+    Reading {
+        message: Window(328, 53),
+        mask_id: 5,
+        mask: Window(4, 9),
+    },
     // 10 octets of a lent mask
-    328, 53, 5, 318, 10,
+    Reading {
+        message: Window(328, 53),
+        mask_id: 5,
+        mask: Window(318, 10),
+    },
 ];

@@ -1,102 +1,98 @@
 // The refusals of document 01 ("Refusal numbers"): one enum, and the number and the name of each case.
 #![tactic(auto)]
 
-ghost use Rattle.std.specs.Prelude.{◌≡◌};
-ghost use Rattle.refusal.specs.Name.{name_of};
+ghost use Rattle.std.specs.Prelude.{◌≡◌, ◌≤◌, Some, length};
+ghost use Rattle.refusal.specs.Name.{letters_of, name_of};
 ghost use Rattle.refusal.specs.Number.{number_of};
 
-// TYPE is named Kind: `Type` is a word of the language of the contracts.
-#[derive(Clone, Copy)]
+use std::fmt;
+
+// Each case with the number that the table gives it. TYPE is named Kind: `Type` is a word of the language of the contracts.
+#[derive(Clone, Copy, Debug, PartialEq, Eq, Hash)]
 pub enum Refusal {
-    Length,
-    Out,
-    Second,
-    Clock,
-    Dummy,
-    Stop,
-    Status,
-    Kind,
-    PageNumber,
-    Done,
-    Repeat,
-    Conflict,
-    Full,
-    Timeout,
-    Id,
-    Toh,
-    Mask,
-    Short,
-    Count,
-    System,
-    Twice,
-    NavMsg,
-    Validity,
-    Form,
-    Long,
+    Length = 1,
+    Out = 2,
+    Second = 3,
+    Clock = 4,
+    Dummy = 5,
+    Stop = 6,
+    Status = 7,
+    Kind = 8,
+    PageNumber = 9,
+    Done = 10,
+    Repeat = 11,
+    Conflict = 12,
+    Full = 13,
+    Timeout = 14,
+    Id = 15,
+    Toh = 16,
+    Mask = 17,
+    Short = 18,
+    Count = 19,
+    System = 20,
+    Twice = 21,
+    NavMsg = 22,
+    Validity = 23,
+    Form = 24,
+    Long = 25,
 }
 
 // The number that the table gives a refusal.
 pub fn number(r: Refusal) -> u64
     ensures { result ≡ number_of r }
 {
+    r as u64
+}
+
+// The name that the table gives a refusal, its letters alone.
+pub fn letters(r: Refusal) -> &'static str
+    ensures spelt { result.now ≡ letters_of r }
+    ensures upper_bound { length result.now ≤ 10 }
+{
     match r {
-        Refusal::Length => 1,
-        Refusal::Out => 2,
-        Refusal::Second => 3,
-        Refusal::Clock => 4,
-        Refusal::Dummy => 5,
-        Refusal::Stop => 6,
-        Refusal::Status => 7,
-        Refusal::Kind => 8,
-        Refusal::PageNumber => 9,
-        Refusal::Done => 10,
-        Refusal::Repeat => 11,
-        Refusal::Conflict => 12,
-        Refusal::Full => 13,
-        Refusal::Timeout => 14,
-        Refusal::Id => 15,
-        Refusal::Toh => 16,
-        Refusal::Mask => 17,
-        Refusal::Short => 18,
-        Refusal::Count => 19,
-        Refusal::System => 20,
-        Refusal::Twice => 21,
-        Refusal::NavMsg => 22,
-        Refusal::Validity => 23,
-        Refusal::Form => 24,
-        Refusal::Long => 25,
+        Refusal::Length => "LENGTH",
+        Refusal::Out => "OUT",
+        Refusal::Second => "SECOND",
+        Refusal::Clock => "CLOCK",
+        Refusal::Dummy => "DUMMY",
+        Refusal::Stop => "STOP",
+        Refusal::Status => "STATUS",
+        Refusal::Kind => "TYPE",
+        Refusal::PageNumber => "PAGENUMBER",
+        Refusal::Done => "DONE",
+        Refusal::Repeat => "REPEAT",
+        Refusal::Conflict => "CONFLICT",
+        Refusal::Full => "FULL",
+        Refusal::Timeout => "TIMEOUT",
+        Refusal::Id => "ID",
+        Refusal::Toh => "TOH",
+        Refusal::Mask => "MASK",
+        Refusal::Short => "SHORT",
+        Refusal::Count => "COUNT",
+        Refusal::System => "SYSTEM",
+        Refusal::Twice => "TWICE",
+        Refusal::NavMsg => "NAVMSG",
+        Refusal::Validity => "VALIDITY",
+        Refusal::Form => "FORM",
+        Refusal::Long => "LONG",
     }
 }
 
-// The name that the table gives a refusal, with spaces behind it.
+// The same with spaces behind it: ten octets, since callers were promised an array of this length (docs/REFUSALS.md).
 pub fn name(r: Refusal) -> [u8; 10]
     ensures { result ≡ name_of r }
 {
-    match r {
-        Refusal::Length => [b'L', b'E', b'N', b'G', b'T', b'H', b' ', b' ', b' ', b' '],
-        Refusal::Out => [b'O', b'U', b'T', b' ', b' ', b' ', b' ', b' ', b' ', b' '],
-        Refusal::Second => [b'S', b'E', b'C', b'O', b'N', b'D', b' ', b' ', b' ', b' '],
-        Refusal::Clock => [b'C', b'L', b'O', b'C', b'K', b' ', b' ', b' ', b' ', b' '],
-        Refusal::Dummy => [b'D', b'U', b'M', b'M', b'Y', b' ', b' ', b' ', b' ', b' '],
-        Refusal::Stop => [b'S', b'T', b'O', b'P', b' ', b' ', b' ', b' ', b' ', b' '],
-        Refusal::Status => [b'S', b'T', b'A', b'T', b'U', b'S', b' ', b' ', b' ', b' '],
-        Refusal::Kind => [b'T', b'Y', b'P', b'E', b' ', b' ', b' ', b' ', b' ', b' '],
-        Refusal::PageNumber => [b'P', b'A', b'G', b'E', b'N', b'U', b'M', b'B', b'E', b'R'],
-        Refusal::Done => [b'D', b'O', b'N', b'E', b' ', b' ', b' ', b' ', b' ', b' '],
-        Refusal::Repeat => [b'R', b'E', b'P', b'E', b'A', b'T', b' ', b' ', b' ', b' '],
-        Refusal::Conflict => [b'C', b'O', b'N', b'F', b'L', b'I', b'C', b'T', b' ', b' '],
-        Refusal::Full => [b'F', b'U', b'L', b'L', b' ', b' ', b' ', b' ', b' ', b' '],
-        Refusal::Timeout => [b'T', b'I', b'M', b'E', b'O', b'U', b'T', b' ', b' ', b' '],
-        Refusal::Id => [b'I', b'D', b' ', b' ', b' ', b' ', b' ', b' ', b' ', b' '],
-        Refusal::Toh => [b'T', b'O', b'H', b' ', b' ', b' ', b' ', b' ', b' ', b' '],
-        Refusal::Mask => [b'M', b'A', b'S', b'K', b' ', b' ', b' ', b' ', b' ', b' '],
-        Refusal::Short => [b'S', b'H', b'O', b'R', b'T', b' ', b' ', b' ', b' ', b' '],
-        Refusal::Count => [b'C', b'O', b'U', b'N', b'T', b' ', b' ', b' ', b' ', b' '],
-        Refusal::System => [b'S', b'Y', b'S', b'T', b'E', b'M', b' ', b' ', b' ', b' '],
-        Refusal::Twice => [b'T', b'W', b'I', b'C', b'E', b' ', b' ', b' ', b' ', b' '],
-        Refusal::NavMsg => [b'N', b'A', b'V', b'M', b'S', b'G', b' ', b' ', b' ', b' '],
-        Refusal::Validity => [b'V', b'A', b'L', b'I', b'D', b'I', b'T', b'Y', b' ', b' '],
-        Refusal::Form => [b'F', b'O', b'R', b'M', b' ', b' ', b' ', b' ', b' ', b' '],
-        Refusal::Long => [b'L', b'O', b'N', b'G', b' ', b' ', b' ', b' ', b' ', b' '],
+    let mut name = [b' '; 10];
+    let text = letters(r).as_bytes();
+    name[..text.len()].copy_from_slice(text);
+    name
+}
+
+// A refusal prints as its name.
+impl fmt::Display for Refusal {
+    ghost output = { λ r. Some (letters_of r) };
+
+    fn fmt<W: fmt::Write>(&self, f: &mut fmt::Formatter<W>) -> fmt::Result {
+        f.write_str(letters(*self))
     }
 }

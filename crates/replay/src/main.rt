@@ -5,92 +5,57 @@
 // LENGTH. If even its second is cut, there is nothing to feed: the line has - in the place of the second, and says LENGTH too.
 #![tactic(auto)]
 
-ghost use Rattle.std.specs.Prelude.{◌≡◌, ◌≤◌, length, IfOk, OnErr};
+ghost use Rattle.std.specs.Prelude.{◌≡◌};
 ghost use Rattle.collector.specs.Image.{Made};
-ghost use Rattle.collector.specs.declared.state.Head.{Head as HeadImage};
 ghost use Rattle.replay.specs.Drive.{second_of};
 
 mod answer;
 mod header;
 
-use answer::{MESSAGE_OCTETS, print_answer, print_refused};
-use collector::{Head, TIMEOUT};
-use header::wide;
-use refusal::Refusal;
+use answer::{MESSAGE_OCTETS, print_answer, print_cut};
+use collector::{Collector, TIMEOUT};
 use std::io;
 
 const ENTRY_OCTETS: usize = 60;
 
-const SECOND_OCTETS: usize = 4;
-
 // The second of an entry.
-fn second_of(octets: &[u8]) -> u64
-    requires { 4 ≤ length octets.now }
-    ensures { result ≡ second_of octets.now }
+#[tactic(auto, unfolding(crate::specs::Drive::second_of))]
+fn second_of(octets: [u8; 4]) -> u64
+    ensures { result ≡ second_of octets }
 {
-    let high = wide(octets[0]) * 256 + wide(octets[1]);
-    (high * 256 + wide(octets[2])) * 256 + wide(octets[3])
+    u64::from(u32::from_be_bytes(octets))
 }
 
-// Feeds a page, and prints the answer. Where it cannot be printed, the store is as the feed left it.
-fn feed_page(
-    rt: &impl Print,
-    head: Head,
-    store: &mut [u8],
-    second: u64,
-    page: &[u8],
-) -> io::Result<Head>
-    requires { Made (record { head = head; store = store.old }) }
-    ensures fed { IfOk result (λ after. Made (record { head = after; store = store.new })) }
-    ensures failed { OnErr result ((after : HeadImage) × Made (record { head = after; store = store.new })) }
+// The line of an entry, or of what is there of the last one. Where it cannot be printed, the collector is as the feed left it.
+fn replay_entry(rt: &impl Print, collector: &mut Collector, octets: &[u8]) -> io::Result<()>
+    requires { Made collector.old }
+    ensures { Made collector.new }
 {
+    let Some((&second, page)) = octets.split_first_chunk() else {
+        return print_cut(rt);
+    };
+    let second = second_of(second);
     let mut message = [0u8; MESSAGE_OCTETS];
-    let fed = collector::feed_in_place(head, store, second, page, &mut message);
-    let answer = fed.answer;
-    print_answer(rt, answer, page, message)?;
-    let after = fed.head;
-    Ok(after)
+    let answer = collector::feed(collector, second, page, &mut message);
+    print_answer(rt, second, answer, page, &message)
 }
 
-// The line of an entry, or of what is there of the last one.
-fn replay_entry(rt: &impl Print, head: Head, store: &mut [u8], octets: &[u8]) -> io::Result<Head>
-    requires { Made (record { head = head; store = store.old }) }
-    ensures fed { IfOk result (λ after. Made (record { head = after; store = store.new })) }
-    ensures failed { OnErr result ((after : HeadImage) × Made (record { head = after; store = store.new })) }
+// Replays entry by entry. A proved loop has to end, and nothing says that the input does: so its turns are numbered, and no run uses the numbers up.
+fn replay_entries(rt: &(impl Print + Input), collector: &mut Collector) -> io::Result<()>
+    requires { Made collector.old }
 {
-    if octets.len() < SECOND_OCTETS {
-        stdio::write_all(rt, b"-")?;
-        print_refused(rt, Refusal::Length)?;
-        return Ok(head);
-    }
-    let second = second_of(octets);
-    stdio::print_decimal(rt, second)?;
-    feed_page(rt, head, store, second, &octets[SECOND_OCTETS..])
-}
-
-// Replays entry by entry. A proved loop has to end, and nothing says that the input does: so it counts its turns down, from a number that no run uses up.
-fn replay_entries(rt: &(impl Print + Input), head: Head, store: &mut [u8]) -> io::Result<()>
-    requires { Made (record { head = head; store = store.old }) }
-{
-    let mut held = head;
-    let mut turns = u64::MAX;
-    while turns > 0 {
+    for _ in 0..u64::MAX {
         let mut octets = [0u8; ENTRY_OCTETS];
         let n = stdio::read_full(rt, &mut octets)?;
         if n == 0 {
-            return Ok(());
+            break;
         }
-        let next = replay_entry(rt, held, store, &octets[..n])?;
-        held = next;
-        turns -= 1;
+        replay_entry(rt, collector, &octets[..n])?;
     }
     Ok(())
 }
 
 fn main(rt: HostRuntime) -> io::Result<()> {
-    let started = collector::start(TIMEOUT);
-    let collector = started.collector;
-    let head = collector.head;
-    let mut store = collector.store;
-    replay_entries(&rt, head, &mut store)
+    let mut collector = collector::start(TIMEOUT).collector;
+    replay_entries(&rt, &mut collector)
 }

@@ -32,6 +32,7 @@ elements : (n k : ℕ) (l : List ℕ) → k + n ≤ length l → take n (drop k 
 elements zero k l h = refl
 elements (suc n) k l h = ap (take (suc n)) (drop-cons l k 0 (omega arith)) ∙ ap (λ (r : List ℕ). get_or l k 0 ∷ r) (elements n (suc k) l (omega arith))
 
+-- it looks at the first record only: said for who reads, nothing leans on it
 pub header-front : (l : List ℕ) → 16 ≤ length l → is_header l ≡ is_header (take 16 l)
 unfolding is_header header_of
 header-front l h = sym (ap is_header (elements 16 0 l h))

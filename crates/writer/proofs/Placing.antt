@@ -1,47 +1,20 @@
--- Where bits end that are put one behind another, how many bits a part has at most, and that all parts of a message have room.
+-- How many bits each part of a message has at most, and that all parts together have room.
 -- Lengths add; a part that is left out has no bits; a record of 16 octets has 114 bits in all parts together.
-use Prim.Native.Nat.{ℕ, ◌+◌, ◌≤◌}
+use Prim.Native.Nat.{ℕ, ◌+◌, ◌-◌, ◌≤◌}
 use native.Mathlib.Omega.{arith}
-use mathlib.Core.Bool.{Bool, true, false, cond, false≢true, true≢false}
+use mathlib.Core.Bool.{Bool, false, cond}
 use mathlib.Core.List.{List, [], ◌++◌}
-use mathlib.Core.Path.{◌≡◌, subst, ◌∙◌}
 use lib.Dec.{eqb}
-use lib.ListN.{length, get_or, length-append}
-use Rattle.lists.proofs.Tests.{if_le}
+use lib.ListN.{length, get_or, take, drop, length-append, length-take, length-drop}
+use Rattle.lists.proofs.Tests.{if_le, on_bool}
 use Rattle.bits.specs.Bits.{num, bits, bits_of, number_at}
 use Rattle.bits.proofs.Values.{length-bits}
 use Rattle.writer.specs.declared.part.Part.{Part}
 use Rattle.writer.specs.declared.part.Part.TheVariants.{Orbit, Clock, Chosen, SubsetClock, Code, Phase, Cell}
 use Rattle.mt1.specs.Message.{has_mask}
 use Rattle.writer.specs.Writer.{pair, header_of}
-use Rattle.writer.specs.Rendering.{Appends, is_kind, in_subset, gathered, most, system_part, multiplier_part, subset_part, header_part, mask_part, block_part, both, clocks_part, subsets_part}
-use Rattle.writer.proofs.Appending.{appends-none}
-use Rattle.writer.proofs.Weights.{gathered-most}
-
--- a number that is another one
-pub appends-is : {d e : List ℕ} {at end v w : ℕ} (n : ℕ) → v ≡ w → Appends d at e end (bits n v) → Appends d at e end (bits n w)
-appends-is {d} {e} {at} {end} n q p = subst (λ (x : ℕ). Appends d at e end (bits n x)) q p
-
--- ---- places
--- at most n bits were put
-pub record Placed (before : List ℕ) (at : ℕ) (after : List ℕ) (end n : ℕ) : Type 0 where
-  pub room : length after ≡ length before
-  pub near : end ≤ at + n
-
-pub placed_first : {d e : List ℕ} {at end : ℕ} {bs : List Bool} (n : ℕ) → Appends d at e end bs → length bs ≤ n → Placed d at e end n
-placed_first n p h = record { room = p.room; near = omega (arith, p.ends, h) }
-
-pub placed-then : {a b c : List ℕ} {at m end n : ℕ} {bs : List Bool} (k : ℕ) → Placed a at b m n → Appends b m c end bs → length bs ≤ k → Placed a at c end (n + k)
-placed-then k p q h = record { room = q.room ∙ p.room; near = omega (arith, p.near, q.ends, h) }
-
--- ---- a part that is there or not
-pub skipped : (d : List ℕ) (at : ℕ) (b : Bool) (bs : List Bool) → b ≡ false → Appends d at d at (cond b bs [])
-skipped d at true bs e = absurd (true≢false e)
-skipped d at false bs e = appends-none d at
-
-pub kept : {d e : List ℕ} {at end : ℕ} {bs : List Bool} (b : Bool) → b ≡ true → Appends d at e end bs → Appends d at e end (cond b bs [])
-kept true e p = p
-kept false e p = absurd (false≢true e)
+use Rattle.writer.specs.Rendering.{is_kind, in_subset, gathered, system_part, multiplier_part, subset_part, header_part, mask_part, block_part, both, clocks_part, subsets_part, rendered_of, second_at, rendered}
+use Rattle.writer.proofs.Weights.{most, gathered-most}
 
 -- ---- how many bits
 pub bits-few : (n v : ℕ) → length (bits n v) ≤ n
@@ -165,22 +138,30 @@ subsets-few a b =
     )
 
 -- ---- room
--- the most bits of a message up to the end of each part
-abbrev pub to_mask : List ℕ → List ℕ → ℕ
-to_mask a b = 32 + mask_most a b
+rendered-most : (l a b : List ℕ)
+    → length (rendered_of l a b) ≤ 32 + (mask_most a b + ((4 + both_most Orbit a b) + ((4 + clocks_most a b) + ((4 + subsets_most a b) + ((4 + both_most Code a b) + (4 + both_most Phase a b))))))
+unfolding rendered_of
+rendered-most l a b =
+    append-few (header_part l) _ 32 _ (header-few l)
+    (append-few (mask_part l a b) _ (mask_most a b) _ (mask-few l a b)
+    (append-few (block_part l 1 (both Orbit a b)) _ (4 + both_most Orbit a b) _ (block-few l 1 (both Orbit a b) (both_most Orbit a b) (both-few Orbit a b))
+    (append-few (block_part l 2 (clocks_part a b)) _ (4 + clocks_most a b) _ (block-few l 2 (clocks_part a b) (clocks_most a b) (clocks-few a b))
+    (append-few (block_part l 3 (subsets_part a b)) _ (4 + subsets_most a b) _ (block-few l 3 (subsets_part a b) (subsets_most a b) (subsets-few a b))
+    (append-few (block_part l 4 (both Code a b)) (block_part l 5 (both Phase a b)) (4 + both_most Code a b) (4 + both_most Phase a b)
+    (block-few l 4 (both Code a b) (both_most Code a b) (both-few Code a b))
+    (block-few l 5 (both Phase a b) (both_most Phase a b) (both-few Phase a b)))))))
 
-abbrev pub to_orbits : List ℕ → List ℕ → ℕ
-to_orbits a b = to_mask a b + (4 + both_most Orbit a b)
-
-abbrev pub to_clocks : List ℕ → List ℕ → ℕ
-to_clocks a b = to_orbits a b + (4 + clocks_most a b)
-
-abbrev pub to_subset : List ℕ → List ℕ → ℕ
-to_subset a b = to_clocks a b + (4 + subsets_most a b)
-
-abbrev pub to_codes : List ℕ → List ℕ → ℕ
-to_codes a b = to_subset a b + (4 + both_most Code a b)
-
-pub all_fit : (a b : List ℕ) → length a + length b ≤ 21792 → to_codes a b + (4 + both_most Phase a b) ≤ 163840
+all_fit : (l a b : List ℕ) → length a + length b ≤ 21792 → length (rendered_of l a b) ≤ 163840
 unfolding most
-all_fit a b h = omega (arith, h)
+all_fit l a b h = omega (arith, rendered-most l a b, h)
+
+second-least : (l : List ℕ) → 16 ≤ second_at l
+unfolding second_at
+second-least l = on_bool (eqb (length l) 16) (λ e. rw e (omega arith)) (λ e. rw e (omega arith))
+
+pub rendered-few : (l : List ℕ) → length l ≤ 21808 → length (rendered l) ≤ 163840
+unfolding rendered
+rendered-few l h =
+    let p = second_at l in
+    all_fit l (take (p - 16) (drop 16 l)) (drop p l)
+    (omega (arith, h, second-least l, length-take (p - 16) (drop 16 l), length-drop 16 l, length-drop p l))

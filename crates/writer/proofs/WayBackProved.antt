@@ -7,12 +7,14 @@ use mathlib.Core.List.{List, []}
 use mathlib.Core.Option.{Option, none, some}
 use mathlib.Core.Path.{◌≡◌, refl, sym, ap, ap₂, subst, ◌∙◌}
 use lib.ListN.{length, take}
+use Rattle.std.specs.Prelude.{Result, Ok}
 use borrow.Author.Tests.{lt-ltb, eq-eqb}
 use Rattle.lists.specs.Lists.{laid}
 use Rattle.lists.proofs.Laid.{laid-front}
 use Rattle.bits.specs.Bits.{bits_of, octets_of}
 use Rattle.bits.proofs.Octets.{length-bits_of, bits-of-octets}
 use Rattle.refusal.specs.declared.Refusal.{Refusal}
+use Rattle.mt1.specs.declared.answer.RefusalAt.{RefusalAt}
 use Rattle.mt1.specs.Parse.{Outcome, got}
 use Rattle.mt1.specs.Message.{Header, has_mask, System, Mask, Message}
 use Rattle.mt1.specs.Mt1.{needs_mask, used, Lent, lent_for, is_none}
@@ -20,11 +22,8 @@ use Rattle.mt1.specs.Valid.{MaskOk, IfFlag}
 use Rattle.mt1.specs.Records.{header_record, records}
 use Rattle.mt1.proofs.Combinators.{some-none}
 use Rattle.mt1.proofs.Inverted.{inverse, records-used, end-within}
-use Rattle.reader.specs.declared.reading.ReadAnswer.{ReadAnswer}
-use Rattle.reader.specs.declared.reading.ReadAnswer.TheVariants.{Records}
 use Rattle.reader.specs.Reader.{reading, answer_of, buffer_of}
 use Rattle.reader.proofs.Answers.{pages}
-use Rattle.writer.specs.declared.writing.WriteAnswer.TheVariants.{Size}
 use Rattle.writer.specs.Writer.{Call, are_records, header_of, is_header, lacks_mask, check, ReadsTo, SoWritten, Writes}
 use Rattle.writer.specs.Rendering.{rendered}
 use Rattle.writer.specs.WayBack.{ReadsAs, WayBack}
@@ -69,9 +68,9 @@ module _ (lent : Lent) (l : List ℕ) (k : ℕ) (bs : List Bool) (w : SoWritten 
   unfolding reading
   octets-read = rw (pages (length (octets_of bs)) (omega (arith, octets-length, w.size.0)) (omega (arith, octets-length, w.size.1)) (omega (arith, octets-length)), octets-bits) w.reads
 
-  reads-back : (room room' : List ℕ) (answer : ReadAnswer) → ReadsAs lent (octets_of bs) room answer room' → (answer ≡ Records (length l / 16)) × (room' ≡ laid room 0 l)
+  reads-back : (room room' : List ℕ) (answer : Result ℕ RefusalAt) → ReadsAs lent (octets_of bs) room answer room' → (answer ≡ Ok (length l / 16)) × (room' ≡ laid room 0 l)
   reads-back room room' answer r = (
-    r.answered ∙ ap (answer_of lent) octets-read ∙ ap (λ (x : List ℕ). Records (length x / 16)) w.records,
+    r.answered ∙ ap (answer_of lent) octets-read ∙ ap (λ (x : List ℕ). Ok (length x / 16)) w.records,
     r.buffer ∙ ap (λ (o : Outcome Message). buffer_of lent o room) octets-read ∙ ap (laid room 0) w.records,
   )
 
@@ -98,7 +97,7 @@ module _ (lent : Lent) (l : List ℕ) (k : ℕ) (bs : List Bool) (w : SoWritten 
       let y : lacks_mask lent (header_of l) ≡ false = ap (lacks_mask lent) h ∙ lacks-none lent w.m.header w.m.mask ss x.valid.mask x.valid.used in
       rw (n, p, y)
 
-  writes_again : (before : List ℕ) → Writes call before (Size k) (laid before 0 (octets_of bs))
+  writes_again : (before : List ℕ) → Writes call before (Ok k) (laid before 0 (octets_of bs))
   writes_again before = record {
     checks = λ r e. absurd (some-none (sym e ∙ unrefused));
     judged = λ e. judged-size lent l before (laid before 0 (octets_of bs)) bs reads-to within k bs w refl;
@@ -106,7 +105,7 @@ module _ (lent : Lent) (l : List ℕ) (k : ℕ) (bs : List Bool) (w : SoWritten 
   }
 
 -- what was written passed the checks
-passed : (c : Call) (before after : List ℕ) (k : ℕ) → Writes c before (Size k) after → check c ≡ none
+passed : (c : Call) (before after : List ℕ) (k : ℕ) → Writes c before (Ok k) after → check c ≡ none
 passed c before after k w = pick (check c) refl
   where
     pick : (o : Option Refusal) → check c ≡ o → check c ≡ none
@@ -121,6 +120,6 @@ way_back lent = record {
       reads-back lent l k bs o room room' answer (subst (λ (x : List ℕ). ReadsAs lent x room answer room') f r);
   read-then-write = λ l k bs o. (
     reads-back lent l k bs o,
-    λ before after answer x. one-writing _ before answer (Size k) after (laid before 0 (octets_of bs)) x (writes_again lent l k bs o before),
+    λ before after answer x. one-writing _ before answer (Ok k) after (laid before 0 (octets_of bs)) x (writes_again lent l k bs o before),
   );
 }

@@ -13,7 +13,20 @@ use Rattle.mt1.proofs.Blocks.{iod-le}
 use Rattle.writer.specs.declared.part.Part.{Part}
 use Rattle.writer.specs.declared.part.Part.TheVariants.{Orbit, Clock, Chosen, SubsetClock, Code, Phase, Cell}
 use Rattle.writer.specs.Writer.{pair}
-use Rattle.writer.specs.Rendering.{is_kind, is_chosen, is_cell, gather, row, signals_of, part_of, gathered, weight, most}
+use Rattle.writer.specs.Rendering.{is_kind, is_chosen, is_cell, gather, row, signals_of, part_of, gathered}
+
+-- the most bits that a part takes of a record, and of a system
+abbrev weight : Part → ℕ
+weight Orbit = 47
+weight Clock = 13
+weight Chosen = 1
+weight SubsetClock = 13
+weight Code = 11
+weight Phase = 13
+weight Cell = 16
+
+unfoldable pub most : Part → List ℕ → ℕ
+most part s = weight part * (length s / 16)
 
 row-most : (bs : List Bool) (g : ℕ) (l : List ℕ) → length (row bs g l) ≤ length bs
 unfolding row
@@ -24,7 +37,7 @@ row-most (true ∷ bs) g l =
     omega (arith, length-append (bits 1 (num b)) rest, length-bits 1 (num b), row-most bs (suc g) (cond b (drop 16 l) l))
 row-most (false ∷ bs) g l = omega (arith, row-most bs (suc g) l)
 
-pub part-weight : (part : Part) (s l : List ℕ) → length (part_of part s l) ≤ weight part
+part-weight : (part : Part) (s l : List ℕ) → length (part_of part s l) ≤ weight part
 unfolding part_of
 part-weight Orbit s l =
     let a = bits (iod_bits (get_or s 2 0)) (pair l 4) in

@@ -9,11 +9,11 @@ use mathlib.Core.Option.{Option, none, some}
 use mathlib.Core.Path.{◌≡◌, refl, sym, ap, subst, ◌∙◌}
 use lib.ListN.{length, length-append}
 use lib.Seq.{drop-append_seam}
+use Rattle.std.specs.Prelude.{Result, Ok, Err}
 use Rattle.lists.specs.Lists.{laid}
 use Rattle.bits.specs.Bits.{octets_of}
 use Rattle.refusal.specs.declared.Refusal.{Refusal}
 use Rattle.refusal.specs.declared.Refusal.TheVariants.{Form, Long}
-use Rattle.writer.specs.declared.writing.WriteAnswer.TheVariants.{Size, Refused}
 use Rattle.mt1.specs.Parse.{got}
 use Rattle.mt1.specs.Message.{System, Mask, Message}
 use Rattle.mt1.specs.Mt1.{Lent, lent_for, ids, message}
@@ -78,16 +78,16 @@ unfolding rendered rendered_of header_part
 header-long l = simp length-append omega arith
 
 -- ---- answers differ
-pub size-refused : {k : ℕ} {r : Refusal} → Size k ≡ Refused r → ⊥
+pub size-refused : {k : ℕ} {r : Refusal} → ◌≡◌ {A = Result ℕ Refusal} (Ok k) (Err r) → ⊥
 size-refused e = let z : ◌≡◌ {A = ℕ} 0 1 = cc in omega arith
 
-form-long : Refused Form ≡ Refused Long → ⊥
+form-long : ◌≡◌ {A = Result ℕ Refusal} (Err Form) (Err Long) → ⊥
 form-long e = let z : ◌≡◌ {A = ℕ} 0 1 = cc in omega arith
 
-refused-same : {r s : Refusal} → Refused r ≡ Refused s → r ≡ s
+refused-same : {r s : Refusal} → ◌≡◌ {A = Result ℕ Refusal} (Err r) (Err s) → r ≡ s
 refused-same e = cc
 
-size_same : {j k : ℕ} → Size j ≡ Size k → j ≡ k
+size_same : {j k : ℕ} → ◌≡◌ {A = Result ℕ Refusal} (Ok j) (Ok k) → j ≡ k
 size_same e = cc
 
 -- ---- the rendering of a list
@@ -129,7 +129,7 @@ module _ (lent : Lent) (l : List ℕ) where
 
   -- ---- what is answered
   module _ (before after : List ℕ) where
-    pub judged-unread : (SomeReads lent l AnyLength → ⊥) → Judged lent l before (Refused Form) after
+    pub judged-unread : (SomeReads lent l AnyLength → ⊥) → Judged lent l before (Err Form) after
     judged-unread unread = record {
       form = (λ e s. unread s, λ s. refl);
       long = (λ e. absurd (form-long e), λ s. absurd (unread s.0));
@@ -137,10 +137,10 @@ module _ (lent : Lent) (l : List ℕ) where
       size = λ k e. absurd (size-refused (sym e));
     }
 
-    pub judged-form : (rest : List Bool) → (ReadsTo lent (rendered l ++ rest) l → ⊥) → Judged lent l before (Refused Form) after
+    pub judged-form : (rest : List Bool) → (ReadsTo lent (rendered l ++ rest) l → ⊥) → Judged lent l before (Err Form) after
     judged-form rest unread = judged-unread λ s. unread (reads-rendered rest s)
 
-    pub judged-long : (bs : List Bool) → ReadsTo lent bs l → 13568 < length (rendered l) → Judged lent l before (Refused Long) after
+    pub judged-long : (bs : List Bool) → ReadsTo lent bs l → 13568 < length (rendered l) → Judged lent l before (Err Long) after
     judged-long bs t n = record {
       form = (λ e. absurd (form-long (sym e)), λ s. absurd (s (bs, tt, t)));
       long = (λ e. ((bs, tt, t), λ s. let z : ⊥ = omega (arith, n, within-rendered s) in z), λ s. refl);
@@ -148,7 +148,7 @@ module _ (lent : Lent) (l : List ℕ) where
       size = λ k e. absurd (size-refused (sym e));
     }
 
-    pub judged-size : (bs : List Bool) → ReadsTo lent bs l → length (rendered l) ≤ 13568 → (k : ℕ) (w : List Bool) → SoWritten lent l k w → after ≡ laid before 0 (octets_of w) → Judged lent l before (Size k) after
+    pub judged-size : (bs : List Bool) → ReadsTo lent bs l → length (rendered l) ≤ 13568 → (k : ℕ) (w : List Bool) → SoWritten lent l k w → after ≡ laid before 0 (octets_of w) → Judged lent l before (Ok k) after
     judged-size bs t few k w o e = record {
       form = (λ e. absurd (size-refused e), λ s. absurd (s (bs, tt, t)));
       long = (λ e. absurd (size-refused e), λ s. absurd (s.1 (rendered-within bs t few)));

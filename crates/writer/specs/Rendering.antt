@@ -1,22 +1,24 @@
 -- How the code renders a list of records as bits, whatever its octets are: for private contracts alone. No public contract and no theorem of the demands cites it.
 -- Leans on bit strings, and on the header of a list of records.
-use Rattle.std.specs.Prelude.{ℕ, zero, suc, ◌+◌, ◌*◌, ◌-◌, ◌/◌, ◌%◌, ◌≤◌, Bool, false, not, ◌&&◌, cond, List, [], ◌∷◌, ◌++◌, ◌≡◌, eqb, length, get_or, take, drop}
+use Rattle.std.specs.Prelude.{ℕ, zero, suc, ◌+◌, ◌-◌, ◌/◌, ◌%◌, ◌≤◌, Bool, false, not, ◌&&◌, cond, List, [], ◌∷◌, ◌++◌, ◌≡◌, eqb, length, get_or, take, drop}
 use Rattle.bits.specs.Bits.{num, bits, bits_of, number_at}
 use Rattle.mt1.specs.Message.{has_mask}
 use Rattle.mt1.specs.Mt1.{iod_bits}
+use Rattle.writer.specs.declared.append.Body.{Body}
 use Rattle.writer.specs.declared.part.Part.{Part}
 use Rattle.writer.specs.declared.part.Part.TheVariants.{Orbit, Clock, Chosen, SubsetClock, Code, Phase, Cell}
 use Rattle.writer.specs.Writer.{pair, header_of}
 
--- bits put behind the first `at` bits of a buffer, up to `end`
-pub record Appends (before : List ℕ) (at : ℕ) (after : List ℕ) (end : ℕ) (bs : List Bool) : Type 0 where
-  pub ends : end ≡ at + length bs
-  pub bits : take end (bits_of after) ≡ take at (bits_of before) ++ bs
-  pub room : length after ≡ length before
+-- bits put behind those of a body, if they have room
+pub record Appends (before after : Body) (bs : List Bool) : Type 0 where
+  pub ends : before.bits + length bs ≤ 163840 → after.bits ≡ before.bits + length bs
+  pub bits : before.bits + length bs ≤ 163840 → take after.bits (bits_of after.octets) ≡ take before.bits (bits_of before.octets) ++ bs
+  pub room : length after.octets ≡ length before.octets
 
 -- ---- records: of each function the list begins with a record
--- whole records, as many as a message can have
+-- whole records, one at least, and not more than a message can have
 pub record Whole (l : List ℕ) : Type 0 where
+  pub some : 16 ≤ length l
   pub few : length l ≤ 21808
   pub whole : length l % 16 ≡ 0
 
@@ -46,10 +48,24 @@ row (b ∷ bs) g l = cond b (bits 1 (num (is_cell g l)) ++ row bs (suc g) (cond 
 abbrev pub signals_of : List ℕ → List Bool
 signals_of s = take 16 (drop 96 (bits_of s))
 
+-- the kind of record that a part is taken of
+abbrev pub kind_of : Part → ℕ
+kind_of Orbit = 3
+kind_of Clock = 3
+kind_of Chosen = 3
+kind_of SubsetClock = 3
+kind_of Code = 4
+kind_of Phase = 4
+kind_of Cell = 3
+
+-- a satellite's orbit, behind its reference IOD
+abbrev pub orbit_fields : List ℕ → List ℕ → List Bool
+orbit_fields s l = bits (iod_bits (get_or s 2 0)) (pair l 4) ++ (bits 13 (pair l 6) ++ (bits 12 (pair l 8) ++ bits 12 (pair l 10)))
+
 -- what a part takes of the record at the front of l, which is one of the system s
 unfoldable pub part_of : Part → List ℕ → List ℕ → List Bool
 unfolding bits bits_of row
-part_of Orbit s l = cond (is_kind 3 l) (bits (iod_bits (get_or s 2 0)) (pair l 4) ++ (bits 13 (pair l 6) ++ (bits 12 (pair l 8) ++ bits 12 (pair l 10)))) []
+part_of Orbit s l = cond (is_kind 3 l) (orbit_fields s l) []
 part_of Clock s l = cond (is_kind 3 l) (bits 13 (pair l 12)) []
 part_of Chosen s l = cond (is_kind 3 l) (bits 1 (num (is_chosen l))) []
 part_of SubsetClock s l = cond (is_kind 3 l && is_chosen l) (bits 13 (pair l 14)) []
@@ -60,19 +76,6 @@ part_of Cell s l = cond (is_kind 3 l) (row (signals_of s) 0 (drop 16 l)) []
 unfoldable pub gathered : Part → List ℕ → List Bool
 unfolding gather part_of
 gathered part s = gather (length s / 16) (part_of part s) s
-
--- the most bits that a part takes of a record, and of a system
-abbrev pub weight : Part → ℕ
-weight Orbit = 47
-weight Clock = 13
-weight Chosen = 1
-weight SubsetClock = 13
-weight Code = 11
-weight Phase = 13
-weight Cell = 16
-
-unfoldable pub most : Part → List ℕ → ℕ
-most part s = weight part * (length s / 16)
 
 -- a system of the mask
 unfoldable pub system_part : List ℕ → List Bool
@@ -101,6 +104,10 @@ header_part l = bits 12 (pair l 4) ++ (bits 6 (get_or l 1 0) ++ (bits 4 0 ++ (bi
 unfoldable pub mask_part : List ℕ → List ℕ → List ℕ → List Bool
 unfolding bits header_of system_part
 mask_part l a b = cond (has_mask (header_of l)) (bits 4 (num (is_kind 2 a) + num (is_kind 2 b)) ++ (system_part a ++ (system_part b ++ bits 6 0))) []
+
+-- the interval of the kth flag's block, if that is there
+abbrev pub interval_part : List ℕ → ℕ → List Bool
+interval_part l k = cond (get_or (header_of l).flags k false) (bits 4 (get_or l (5 + k) 0)) []
 
 -- the block of the kth flag, with its interval
 unfoldable pub block_part : List ℕ → ℕ → List Bool → List Bool

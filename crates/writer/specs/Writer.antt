@@ -1,13 +1,11 @@
 -- What `write` answers and writes: 01, Records ("The writer takes records, a lent mask and a buffer of 1,696").
 -- Leans on the parser and on the records.
-use Rattle.std.specs.Prelude.{ℕ, zero, suc, ◌+◌, ◌*◌, ◌-◌, ◌%◌, ◌≤◌, Bool, false, not, ◌&&◌, cond, List, [], ◌∷◌, map, ◌⊎◌, ◌≡◌, eqb, ltb, length, get_or, drop}
+use Rattle.std.specs.Prelude.{ℕ, zero, suc, ◌+◌, ◌*◌, ◌-◌, ◌%◌, ◌≤◌, Bool, false, not, ◌&&◌, cond, List, [], ◌∷◌, map, ◌⊎◌, ◌≡◌, eqb, ltb, length, get_or, drop, Result, Ok, Err}
 use Rattle.std.proofs.Math.Option.{Option, none, some}
 use Rattle.lists.specs.Lists.{laid, memb}
 use Rattle.bits.specs.Bits.{bits, octets_of}
 use Rattle.refusal.specs.declared.Refusal.{Refusal}
 use Rattle.refusal.specs.declared.Refusal.TheVariants.{Out, Mask, Form, Long}
-use Rattle.writer.specs.declared.writing.WriteAnswer.{WriteAnswer}
-use Rattle.writer.specs.declared.writing.WriteAnswer.TheVariants.{Size, Refused}
 use Rattle.mt1.specs.Parse.{got}
 use Rattle.mt1.specs.Message.{Header, has_mask, has_orbit, has_clock, has_subset, has_code, has_phase, Subset, Block, Message}
 use Rattle.mt1.specs.Message as message-type
@@ -139,15 +137,15 @@ pub record SoWritten (lent : Lent) (l : List ℕ) (k : ℕ) (bs : List Bool) : T
   pub filling : drop end bs ≡ turns false (424 * k - end)
 
 -- behind the first checks. "The answer is the size; octets behind the message are untouched"
-pub record Judged (lent : Lent) (l before : List ℕ) (answer : WriteAnswer) (after : List ℕ) : Type 0 where
-  pub form : Exactly (answer ≡ Refused Form) (SomeReads lent l AnyLength → ⊥)
-  pub long : Exactly (answer ≡ Refused Long) (SomeReads lent l AnyLength × (SomeReads lent l Within → ⊥))
-  pub only : (r : Refusal) → answer ≡ Refused r → (r ≡ Form) ⊎ (r ≡ Long)
-  pub size : (k : ℕ) → answer ≡ Size k → (bs : List Bool) × SoWritten lent l k bs × (after ≡ laid before 0 (octets_of bs))
+pub record Judged (lent : Lent) (l before : List ℕ) (answer : Result ℕ Refusal) (after : List ℕ) : Type 0 where
+  pub form : Exactly (answer ≡ Err Form) (SomeReads lent l AnyLength → ⊥)
+  pub long : Exactly (answer ≡ Err Long) (SomeReads lent l AnyLength × (SomeReads lent l Within → ⊥))
+  pub only : (r : Refusal) → answer ≡ Err r → (r ≡ Form) ⊎ (r ≡ Long)
+  pub size : (k : ℕ) → answer ≡ Ok k → (bs : List Bool) × SoWritten lent l k bs × (after ≡ laid before 0 (octets_of bs))
 
 -- the contract of `write`, whose buffer holds `before`, and then `after`
-pub record Writes (c : Call) (before : List ℕ) (answer : WriteAnswer) (after : List ℕ) : Type 0 where
-  pub checks : (r : Refusal) → check c ≡ some r → answer ≡ Refused r
+pub record Writes (c : Call) (before : List ℕ) (answer : Result ℕ Refusal) (after : List ℕ) : Type 0 where
+  pub checks : (r : Refusal) → check c ≡ some r → answer ≡ Err r
   pub judged : check c ≡ none → Judged c.lent c.records before answer after
   -- "No refusal writes a lent buffer"
-  pub kept : (r : Refusal) → answer ≡ Refused r → after ≡ before
+  pub kept : (r : Refusal) → answer ≡ Err r → after ≡ before

@@ -1,93 +1,98 @@
-// The header, the mask and the blocks behind it: `records` begins with the header record, `a` and `b` are the records of the first and of the second system.
-ghost use Rattle.std.specs.Prelude.{◌≡◌, ◌+◌, ◌≤◌, length};
-ghost use Rattle.writer.specs.declared.part.Part.TheVariants as part-variant;
-ghost use Rattle.writer.specs.Rendering.{Appends, Whole, most, header_part, mask_part, block_part, both, clocks_part, subsets_part};
+// The header, the mask and the blocks behind it, of the records of a message.
+ghost use Rattle.std.specs.Prelude.{◌≡◌, false, ◌≤◌, get_or};
+ghost use Rattle.writer.specs.Writer.{header_of};
+ghost use Rattle.writer.specs.Rendering.{Appends, header_part, mask_part, interval_part, block_part, both, clocks_part, subsets_part};
 
-use crate::append::{append, has_flag, one_if, pair_at};
+use crate::append::{Body, has_flag, octet_at, pair_at};
 use crate::part::{Part, append_parts};
 use crate::system::{
     append_multiplier, append_subset_part, append_system, is_in_subset, is_system,
 };
 
-pub fn append_header(records: &[u8], out: &mut [u8], at: usize) -> usize
-    requires { (16 ≤ length records.now) × (length out.old ≡ 20480) × (at + 32 ≤ 163840) }
-    ensures { Appends out.old at out.new result (header_part records.now) }
-{
-    let flags_at = append(out, at, 12, pair_at(records, 4));
-    let reserved_at = append(out, flags_at, 6, records[1] as u64);
-    let mask_id_at = append(out, reserved_at, 4, 0);
-    let iod_set_at = append(out, mask_id_at, 5, records[2] as u64);
-    append(out, iod_set_at, 5, records[3] as u64)
+// The records of a message, from the header's on, and those of its first and of its second system.
+#[derive(Clone, Copy)]
+pub struct Message<'a> {
+    pub records: &'a [u8],
+    pub first: &'a [u8],
+    pub second: &'a [u8],
 }
 
-pub fn append_mask(records: &[u8], a: &[u8], b: &[u8], out: &mut [u8], at: usize) -> usize
-    requires { (16 ≤ length records.now) × Whole a.now × Whole b.now × (length out.old ≡ 20480)
-        × (at + 138 + most part-variant.Cell a.now + most part-variant.Cell b.now ≤ 163840) }
-    ensures { Appends out.old at out.new result (mask_part records.now a.now b.now) }
+// The header; its reserved bits are 0.
+pub fn append_header(message: Message, body: &mut Body)
+    ensures { Appends body.old body.new (header_part message.entry.records.now) }
 {
-    if !has_flag(records, 0) {
-        return at;
+    let records = message.records;
+    body.append(12, pair_at(records, 4));
+    body.append(6, u64::from(octet_at(records, 1)));
+    body.append(4, 0);
+    body.append(5, u64::from(octet_at(records, 2)));
+    body.append(5, u64::from(octet_at(records, 3)));
+}
+
+// The mask, if the header says that it is there.
+pub fn append_mask(message: Message, body: &mut Body)
+    ensures { Appends body.old body.new (mask_part message.entry.records.now message.entry.first.now message.entry.second.now) }
+{
+    if !has_flag(message.records, 0) {
+        return;
     }
-    let first_at = append(out, at, 4, one_if(is_system(a)) + one_if(is_system(b)));
-    let second_at = append_system(a, out, first_at);
-    let reserved_at = append_system(b, out, second_at);
-    append(out, reserved_at, 6, 0)
+    body.append(
+        4,
+        u64::from(is_system(message.first)) + u64::from(is_system(message.second)),
+    );
+    append_system(message.first, body);
+    append_system(message.second, body);
+    body.append(6, 0);
+}
+
+// Whether the block of the kth flag is there; its interval, if it is.
+fn append_interval(records: &[u8], k: usize, body: &mut Body) -> bool
+    requires { k ≤ 5 }
+    ensures { (result ≡ get_or (header_of records.now).flags k false) × Appends body.old body.new (interval_part records.now k) }
+{
+    if !has_flag(records, k) {
+        return false;
+    }
+    body.append(4, u64::from(octet_at(records, 5 + k)));
+    true
 }
 
 // The block of the kth flag: its interval, and a part of each system.
-pub fn append_block(
-    records: &[u8],
-    k: usize,
-    a: &[u8],
-    b: &[u8],
-    part: Part,
-    out: &mut [u8],
-    at: usize,
-) -> usize
-    requires { (k ≤ 5) × (16 ≤ length records.now) × Whole a.now × Whole b.now × (length out.old ≡ 20480)
-        × (at + 4 + most part a.now + most part b.now ≤ 163840) }
-    ensures { Appends out.old at out.new result (block_part records.now k (both part a.now b.now)) }
+pub fn append_block(message: Message, k: usize, part: Part, body: &mut Body)
+    requires { k ≤ 5 }
+    ensures { Appends body.old body.new (block_part message.entry.records.now k (both part message.entry.first.now message.entry.second.now)) }
 {
-    if !has_flag(records, k) {
-        return at;
+    if !append_interval(message.records, k, body) {
+        return;
     }
-    let first_at = append(out, at, 4, records[5 + k] as u64);
-    let second_at = append_parts(a, part, out, first_at);
-    append_parts(b, part, out, second_at)
+    append_parts(part, message.first, body);
+    append_parts(part, message.second, body);
 }
 
 // The clock full block: the multipliers before the clocks.
-pub fn append_clocks(records: &[u8], a: &[u8], b: &[u8], out: &mut [u8], at: usize) -> usize
-    requires { (16 ≤ length records.now) × Whole a.now × Whole b.now × (length out.old ≡ 20480)
-        × (at + 8 + most part-variant.Clock a.now + most part-variant.Clock b.now ≤ 163840) }
-    ensures { Appends out.old at out.new result (block_part records.now 2 (clocks_part a.now b.now)) }
+pub fn append_clocks(message: Message, body: &mut Body)
+    ensures { Appends body.old body.new (block_part message.entry.records.now 2 (clocks_part message.entry.first.now message.entry.second.now)) }
 {
-    if !has_flag(records, 2) {
-        return at;
+    if !append_interval(message.records, 2, body) {
+        return;
     }
-    let first_at = append(out, at, 4, records[7] as u64);
-    let second_at = append_multiplier(a, out, first_at);
-    let clocks_at = append_multiplier(b, out, second_at);
-    let others_at = append_parts(a, Part::Clock, out, clocks_at);
-    append_parts(b, Part::Clock, out, others_at)
+    append_multiplier(message.first, body);
+    append_multiplier(message.second, body);
+    append_parts(Part::Clock, message.first, body);
+    append_parts(Part::Clock, message.second, body);
 }
 
 // The clock subset block: the systems that are in it, in the order of the records.
-pub fn append_subset(records: &[u8], a: &[u8], b: &[u8], out: &mut [u8], at: usize) -> usize
-    requires { (16 ≤ length records.now) × Whole a.now × Whole b.now × (length out.old ≡ 20480)
-        × (at + 20 + most part-variant.Chosen a.now + most part-variant.SubsetClock a.now + most part-variant.Chosen b.now + most part-variant.SubsetClock b.now ≤ 163840) }
-    ensures { Appends out.old at out.new result (block_part records.now 3 (subsets_part a.now b.now)) }
+pub fn append_subset(message: Message, body: &mut Body)
+    ensures { Appends body.old body.new (block_part message.entry.records.now 3 (subsets_part message.entry.first.now message.entry.second.now)) }
 {
-    if !has_flag(records, 3) {
-        return at;
+    if !append_interval(message.records, 3, body) {
+        return;
     }
-    let count_at = append(out, at, 4, records[8] as u64);
-    let first_at = append(
-        out,
-        count_at,
+    body.append(
         4,
-        one_if(is_in_subset(a)) + one_if(is_in_subset(b)),
+        u64::from(is_in_subset(message.first)) + u64::from(is_in_subset(message.second)),
     );
-    let second_at = append_subset_part(a, out, first_at);
-    append_subset_part(b, out, second_at)
+    append_subset_part(message.first, body);
+    append_subset_part(message.second, body);
 }

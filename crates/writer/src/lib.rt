@@ -10,4 +10,4 @@ mod row;
 mod system;
 mod writing;
 
-pub use writing::{MESSAGE_OCTETS, WriteAnswer, write};
+pub use writing::{MESSAGE_OCTETS, write};

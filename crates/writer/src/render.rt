@@ -1,56 +1,59 @@
 // A list of records as the bits of a message, whatever its octets are: whether they are a message's is judged behind this, by reading them back.
-ghost use Rattle.std.specs.Prelude.{◌≡◌, ◌+◌, ◌*◌, ◌%◌, ◌≤◌, length, drop};
-ghost use Rattle.writer.specs.Rendering.{Appends, Whole, until_system, second_at, rendered_of, rendered};
+ghost use Rattle.std.specs.Prelude.{◌≡◌, ◌+◌, ◌-◌, ◌*◌, ◌/◌, ◌≤◌, ◌==◌, length, slice_index};
+ghost use Rattle.std.specs.List.{find, range_with_len};
+ghost use Rattle.writer.specs.Rendering.{Appends, Whole, second_at, rendered_of, rendered};
 
-use crate::block::{append_block, append_clocks, append_header, append_mask, append_subset};
+use crate::append::Body;
+use crate::block::{
+    Message, append_block, append_clocks, append_header, append_mask, append_subset,
+};
 use crate::part::Part;
 
-// How many octets of n records, from one on, stand before the first that is a system's.
-fn until_system(records: &[u8], octet: usize, n: usize) -> usize
-    requires { Whole records.now × (octet + 16 * n ≤ length records.now) }
-    ensures { (result ≡ until_system n (drop octet records.now)) × (result ≤ 16 * n) × (result % 16 ≡ 0) }
+// The first record behind the first system's own that is a system's. Of `chunks_exact(16).position(..)` the check finds no proof: not that no
+// record before it is a system's.
+fn next_system(records: &[u8]) -> Option<usize>
+    ensures { result ≡ find (λ k. slice_index records.now (16 * k) == 2) (range_with_len 2 (length records.now / 16 - 2)) }
 {
-    let mut k: usize = 0;
-    while k < n {
-        if records[octet + 16 * k] == 2 {
-            return 16 * k;
-        }
-        k += 1;
-    }
-    16 * n
+    (2..records.len() / 16).find(|k| records[16 * *k] == 2)
 }
 
-// Where the second system's records begin.
+// Where the second system's records begin; behind the last record if there is none.
 fn second_at(records: &[u8]) -> usize
-    requires { (16 ≤ length records.now) × Whole records.now }
-    ensures { (result ≡ second_at records.now) × (16 ≤ result) × (result ≤ length records.now) × (result % 16 ≡ 0) }
+    requires { Whole records.now }
+    ensures { (result ≡ second_at records.now) × (16 ≤ result) × (result ≤ length records.now) }
 {
-    let n = records.len();
-    if n == 16 {
-        return 16;
+    match next_system(records) {
+        Some(k) => 16 * k,
+        None => records.len(),
     }
-    32 + until_system(records, 32, n / 16 - 2)
 }
 
-// The message of a header record and of the records of two systems.
-fn render_systems(records: &[u8], a: &[u8], b: &[u8], out: &mut [u8]) -> usize
-    requires { (16 ≤ length records.now) × Whole a.now × Whole b.now × (length a.now + length b.now ≤ 21792) × (length out.old ≡ 20480) }
-    ensures { Appends out.old 0 out.new result (rendered_of records.now a.now b.now) }
+// The header, the mask and the blocks of a message.
+fn render_message(message: Message, body: &mut Body)
+    ensures { Appends body.old body.new (rendered_of message.entry.records.now message.entry.first.now message.entry.second.now) }
 {
-    let mask_at = append_header(records, out, 0);
-    let orbit_at = append_mask(records, a, b, out, mask_at);
-    let clock_at = append_block(records, 1, a, b, Part::Orbit, out, orbit_at);
-    let subset_at = append_clocks(records, a, b, out, clock_at);
-    let code_at = append_subset(records, a, b, out, subset_at);
-    let phase_at = append_block(records, 4, a, b, Part::Code, out, code_at);
-    append_block(records, 5, a, b, Part::Phase, out, phase_at)
+    append_header(message, body);
+    append_mask(message, body);
+    append_block(message, 1, Part::Orbit, body);
+    append_clocks(message, body);
+    append_subset(message, body);
+    append_block(message, 4, Part::Code, body);
+    append_block(message, 5, Part::Phase, body);
 }
 
-// The bits that a list of records makes, from the first bit on; how many they are.
-pub fn render(records: &[u8], out: &mut [u8]) -> usize
-    requires { (16 ≤ length records.now) × Whole records.now × (length out.old ≡ 20480) }
-    ensures { Appends out.old 0 out.new result (rendered records.now) }
+// The bits that a list of records makes. `Whole` stands in the contracts of the four private functions that slice the records of a list, or hand them
+// to one that does: a struct around the one slice would be made once and opened at each use, which is no plainer than the word.
+pub fn render(records: &[u8], body: &mut Body)
+    requires { Whole records.now }
+    ensures { Appends body.old body.new (rendered records.now) }
 {
     let cut = second_at(records);
-    render_systems(records, &records[16..cut], &records[cut..], out)
+    render_message(
+        Message {
+            records,
+            first: &records[16..cut],
+            second: &records[cut..],
+        },
+        body,
+    );
 }

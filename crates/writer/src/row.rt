@@ -1,76 +1,39 @@
 // A satellite's row of the cell mask, from the cells that are listed behind it.
-ghost use Rattle.std.specs.Prelude.{◌≡◌, Bool, List, ◌++◌, ◌+◌, ◌≤◌, ◌<◌, length, get_or, drop};
+ghost use Rattle.std.specs.Prelude.{◌≡◌, Bool, List, ◌++◌, ◌+◌, ◌<◌, drop};
 ghost use Rattle.writer.specs.Rendering.{Appends, is_cell, row, signals_of};
 
-use crate::append::{append, one_if};
+use crate::append::{Body, octet_at};
 
-// Where the next record begins, and how many bits have come.
-#[derive(Clone, Copy)]
-pub struct RowCursor {
-    pub octet: usize,
-    pub at: usize,
+// Whether the record at the front is there, and is the cell of a signal.
+fn is_cell(records: &[u8], g: usize) -> bool
+    ensures { result ≡ is_cell g records.now }
+{
+    octet_at(records, 0) == 4 && usize::from(octet_at(records, 3)) == g
 }
 
-// The octet at a place; behind the end 0.
-fn octet_at(records: &[u8], i: usize) -> u8
-    ensures { result ≡ get_or records.now i 0 }
+// The bit of a signal, if it is masked; the records behind its cell, if that is the next.
+fn append_cell<'a>(system: &[u8], g: usize, records: &'a [u8], body: &mut Body) -> &'a [u8]
+    requires { g < 16 }
+    ensures { (bs : List Bool) × Appends body.old body.new bs
+        × (row (drop g (signals_of system.now)) g records.now ≡ bs ++ row (drop (g + 1) (signals_of system.now)) (g + 1) result.now) }
 {
-    if i >= records.len() {
-        return 0;
-    }
-    records[i]
-}
-
-// Whether the record at an octet is there, and is the cell of a signal.
-fn is_cell(system: &[u8], octet: usize, g: usize) -> bool
-    requires { octet ≤ 30000 }
-    ensures { result ≡ is_cell g (drop octet system.now) }
-{
-    if octet_at(system, octet) != 4 {
-        return false;
-    }
-    octet_at(system, octet + 3) as usize == g
-}
-
-// The bit of a signal, if it is masked.
-fn append_cell(system: &[u8], g: usize, c: RowCursor, out: &mut [u8]) -> RowCursor
-    requires { (g < 16) × (16 ≤ length system.now) × (length out.old ≡ 20480) × (c.octet ≤ 29000) × (c.at + 1 ≤ 163840) }
-    ensures { (result.octet ≤ c.octet + 16) × ((bs : List Bool) × Appends out.old c.at out.new result.at bs × (length bs ≤ 1)
-        × (row (drop g (signals_of system.now)) g (drop c.octet system.now)
-        ≡ bs ++ row (drop (g + 1) (signals_of system.now)) (g + 1) (drop result.octet system.now))) }
-{
-    let octet = c.octet;
-    let at = c.at;
     if !bits::bit_at(system, 96 + g) {
-        return c;
+        return records;
     }
-    let there = is_cell(system, octet, g);
-    let end = append(out, at, 1, one_if(there));
-    if there {
-        return RowCursor {
-            octet: octet + 16,
-            at: end,
-        };
+    let is_next = is_cell(records, g);
+    body.append(1, u64::from(is_next));
+    if is_next {
+        return &records[records.len().min(16)..];
     }
-    RowCursor {
-        octet: octet,
-        at: end,
-    }
+    records
 }
 
-// The row of a satellite whose cells begin at an octet.
-pub fn append_row(system: &[u8], octet: usize, out: &mut [u8], at: usize) -> usize
-    requires { (16 ≤ length system.now) × (length out.old ≡ 20480) × (octet ≤ 28000) × (at + 16 ≤ 163840) }
-    ensures { Appends out.old at out.new result (row (signals_of system.now) 0 (drop octet system.now)) }
+// The row of a satellite, of the records behind its own.
+pub fn append_row(system: &[u8], records: &[u8], body: &mut Body)
+    ensures { Appends body.old body.new (row (signals_of system.now) 0 records.now) }
 {
-    let mut c = RowCursor {
-        octet: octet,
-        at: at,
-    };
-    let mut g: usize = 0;
-    while g < 16 {
-        c = append_cell(system, g, c, out);
-        g += 1;
+    let mut rest = records;
+    for g in 0..16 {
+        rest = append_cell(system, g, rest, body);
     }
-    c.at
 }

@@ -1,13 +1,13 @@
 -- After k turns the first k bits are laid at their place.
 use mathlib.Core.Bool.{false}
 use mathlib.Core.Path.{refl, sym, ◌∙◌}
-use Prim.Native.Nat.{◌+◌, ◌/◌, ◌%◌, ◌^◌, ◌-◌}
+use Prim.Native.Nat.{◌+◌, ◌/◌, ◌^◌, ◌-◌}
 use native.Mathlib.Omega.{arith}
 use lib.ListN.{length-set}
 use borrow.Author.Rules.{rules}
 use Rattle.lists.proofs.Laid.{laid_none, laid_next, laid-all}
 use Rattle.bits.specs.Bits.{odd, bits, bits_of}
-use Rattle.bits.proofs.Values.{odd-mod, length-bits, bits_at}
+use Rattle.bits.proofs.Values.{length-bits, bits_at}
 use Rattle.bits.proofs.Octets.{length-bits_of, set-bit}
 use Rattle.bits.proofs.put_run.Goals as goal
 
@@ -24,7 +24,7 @@ loop-k-preserved c =
     let b = a.v / 2 ^ (a.n - 1 - k) in (
       search rules,
       length-set c.loop-k.out _ _ ∙ c.loop-k.invariant.1,
-      set-bit c.loop-k.out _ (search rules) (a.at + k) _ c.with_bit-y.result (odd (b % 2)) (omega arith) (search rules) c.with_bit-y.ensures
+      set-bit c.loop-k.out _ (search rules) (a.at + k) _ c.with_bit.result (odd b) (omega arith) (search rules) c.with_bit.ensures
           ∙ laid_next
           false
           s
@@ -33,9 +33,9 @@ loop-k-preserved c =
           (bits_of c.loop-k.out)
           k
           (a.at + k)
-          (odd (b % 2))
+          (odd b)
           refl
-          (odd-mod b ∙ sym (bits_at a.n a.v k (search rules)))
+          (sym (bits_at a.n a.v k (search rules)))
           (omega (arith, length-bits_of a.out.now))
           (omega (arith, length-bits a.n a.v))
           c.loop-k.invariant.2,

@@ -1,45 +1,25 @@
--- After the bits that are read, v is their number; a turn reads bits of one octet, so that the shift loses nothing and the sum fits.
-use mathlib.Core.Path.{◌≡◌, refl, sym, ap, ap₂, ◌∙◌, subst⁻¹}
-use Prim.Native.Nat.{ℕ, ◌+◌, ◌*◌, ◌%◌, ◌^◌, ◌<◌}
-use native.Mathlib.Nat.{mod-lt}
+-- The run lies in as many octets as hold it and the bits before it in the first.
+-- What stands behind it is divided away, and what stands before it is above 2 ^ n.
+use mathlib.Core.Path.{◌≡◌, sym, ap, ap₂, ◌∙◌}
+use Prim.Native.Nat.{ℕ, ◌+◌, ◌*◌, ◌/◌, ◌%◌, ◌^◌, ◌-◌, ◌<◌}
+use native.Mathlib.Nat.{one-mul, mod-eq_of_lt}
 use native.Mathlib.Omega.{arith}
 use lib.ListN.{take, drop}
-use lib.Pow.{pow_pos, shl_exact}
-use borrow.Author.Rules.{rules}
+use lib.Pow.{pow-lt}
 use Rattle.bits.specs.Bits.{value, bits_of}
-use Rattle.bits.proofs.Runs.{run-lt, run-part, run_room}
+use Rattle.bits.proofs.Runs.{run-number}
 use Rattle.bits.proofs.run_at.Goals as goal
-use Rattle.bits.proofs.run_at.Goals.{After-part-x}
-
-pub loop-k-init : goal.loop-k-init
-unfolding value
-loop-k-init c = (search rules, refl)
-
-turn : (c : After-part-x)
-    → (c.loop-k.v * 2 ^ c.least-m.result % 2 ^ 64 ≡ c.loop-k.v * 2 ^ c.least-m.result)
-    × (c.loop-k.v * 2 ^ c.least-m.result + c.part-x.result < 2 ^ 64)
-turn c =
-    let a = c.args in
-    let m = c.least-m.result in
-    let h : c.loop-k.v < 2 ^ c.loop-k.k = subst⁻¹ (λ (x : ℕ). x < 2 ^ c.loop-k.k) c.loop-k.invariant.1 (run-lt c.loop-k.k (drop a.at (bits_of a.octets.now))) in
-    let x : c.part-x.result < 2 ^ m = subst⁻¹ (λ (x : ℕ). x < 2 ^ m) c.part-x.ensures (mod-lt _ (pow_pos m)) in
-    (shl_exact c.loop-k.k m 64 h (search rules), run_room c.loop-k.v c.loop-k.k m 64 c.part-x.result h x (search rules))
-
-pub overflow_add-v : goal.overflow_add-v
-overflow_add-v c = let e = turn (goal.at.overflow_add-v c).After-part-x in rw e.0 (record { fits = e.1 })
-
-pub loop-k-preserved : goal.loop-k-preserved
-loop-k-preserved c =
-    let a = c.args in
-    let m = c.least-m.result in (
-      search rules,
-      rw (turn (goal.at.loop-k-preserved c).After-part-x).0 (ap₂ (λ (x y : ℕ). x * 2 ^ m + y) c.loop-k.invariant.1 c.part-x.ensures
-          ∙ sym (run-part a.octets.now a.at c.loop-k.k m _ _ (search rules) (omega arith) (search rules))),
-    )
 
 pub returns : goal.returns
 returns c =
     let a = c.args in
-    let l = c.loop-k in
-    let e : l.k ≡ a.n = search rules in
-    l.invariant.1 ∙ ap (λ (k : ℕ). value (take k (drop a.at (bits_of a.octets.now)))) e
+    let s = a.octets.now in
+    let first : ℕ = a.at / 8 in
+    let before : ℕ = a.at % 8 in
+    let count : ℕ = (before + a.n + 7) / 8 in
+    let few : a.n < 128 = omega (arith, c.requires.0) in
+    let divisor : 1 * 2 ^ a.n % 2 ^ 128 ≡ 2 ^ a.n = rw one-mul (mod-eq_of_lt (pow-lt few)) in
+    let octets : first + count - first ≡ count = omega arith in
+    let place : a.at ≡ 8 * first + before = omega arith in
+    ap₂ (λ (w d : ℕ). w / 2 ^ (8 * count - before - a.n) % d) (c.gather-whole.ensures ∙ ap (λ (k : ℕ). value (bits_of (take k (drop first s)))) octets) divisor
+    ∙ sym (ap (λ (k : ℕ). value (take a.n (drop k (bits_of s)))) place ∙ run-number s first before count a.n (omega (arith, c.requires.1)) (omega arith))

@@ -2,5 +2,5 @@
 use Rattle.has_c.proofs.Values.{replay-few}
 use Rattle.has_c.proofs.has_replay.Goals as goal
 
-pub replay_code-requires : goal.replay_code-requires
-replay_code-requires c = replay-few _ _ _ _ _ (λ i. (c.type_inv.entries i).fits) c.replay.ensures
+pub value_code-requires : goal.value_code-requires
+value_code-requires c = replay-few _ _ _ _ _ (λ i. (c.type_inv.entries i).fits) c.replay.ensures

@@ -1,6 +1,6 @@
 -- The code is that of the answer, and the octets are those of the call behind it.
 use mathlib.Core.Path.{subst}
-use Rattle.pagecode.specs.declared.Answer.{Answer}
+use Rattle.pagecode.specs.Answer.{Answer}
 use Rattle.has_c.specs.Codes.{Is, page_code}
 use Rattle.has_c.proofs.has_start.Goals as goal
 

@@ -2,5 +2,5 @@
 use Rattle.has_c.proofs.Values.{write-few}
 use Rattle.has_c.proofs.has_write.Goals as goal
 
-pub write_code-requires : goal.write_code-requires
-write_code-requires c = write-few _ _ _ _ c.write.ensures
+pub value_code-requires : goal.value_code-requires
+value_code-requires c = write-few _ _ _ _ c.write.ensures

@@ -1,5 +1,5 @@
--- After i turns the digits of the first i octets stand at the start of the text. The measure is how many octets are left.
-use Prim.Native.Nat.{◌-◌, ◌*◌, ◌≤◌}
+-- After i turns the digits of the first i octets stand at the start of the text.
+-- Each turn sets the two digits behind those that stand there.
 use mathlib.Core.Path.{◌≡◌}
 use lib.ListN.{length, take}
 use Rattle.lists.specs.Lists.{laid}
@@ -7,7 +7,4 @@ use Rattle.hex_text.specs.Hex.{hex_of}
 use Rattle.hex_text.proofs.spell.Given as goal
 
 abbrev pub invariant-loop-i : goal.invariant-loop-i
-invariant-loop-i l = (l.i ≤ length l.octets) × (2 * l.i ≤ length l.initial.text) × (length l.text ≡ length l.initial.text) × (l.text ≡ laid l.initial.text 0 (hex_of (take l.i l.octets)))
-
-abbrev pub decreases-loop-i : goal.decreases-loop-i
-decreases-loop-i l = length l.octets - l.i
+invariant-loop-i l = (length l.text ≡ length l.initial.text) × (l.text ≡ laid l.initial.text 0 (hex_of (take l.i l.octets)))

@@ -1,9 +1,7 @@
--- The measure is how many windows are left.
-use Rattle.std.specs.Prelude.{◌≡◌, ◌≤◌, ◌-◌, length}
+-- What is shown so far stands at the start of the list, and the script only grows shorter.
+-- Each window is shown behind it, as far as there is room.
+use Rattle.std.specs.Prelude.{◌≤◌, length}
 use Rattle.writings.proofs.gather.Given as goal
 
-abbrev pub invariant-loop-k : goal.invariant-loop-k
-invariant-loop-k l = (l.k ≤ l.windows) × (l.end ≤ length l.list) × (length l.list ≡ length l.initial.list)
-
-abbrev pub decreases-loop-k : goal.decreases-loop-k
-decreases-loop-k l = l.windows - l.k
+abbrev pub invariant-loop : goal.invariant-loop
+invariant-loop l = (l.end ≤ length l.list) × (length l.script.rest.now ≤ length l.initial.script.rest.now)

@@ -1,35 +1,32 @@
--- The largest of what was passed is 0 if all of it is; with what is left it tells of the whole.
+-- The largest is 0 where all are.
 use mathlib.Core.Bool.{Bool, true, false, ◌&&◌}
-use mathlib.Core.Path.{◌≡◌, refl, sym, ap, ◌∙◌}
-use Prim.Native.Nat.{◌+◌}
+use mathlib.Core.List.{List, [], ◌∷◌}
+use mathlib.Core.Path.{◌≡◌, refl, ap, ◌∙◌}
+use Prim.Native.Nat.{ℕ, max}
+use native.Mathlib.Omega.{arith}
 use lib.Dec.{eqb}
-use lib.ListN.{get_or, drop, drop_of_length-le}
-use borrow.Author.Rules.{rules}
+use borrow.Author.Tests.{eqb-true, eqb-false, eq-eqb, ne_eqb}
+use Rattle.std.specs.List.{fold}
+use Rattle.lists.proofs.Tests.{on_bool}
 use Rattle.collector.specs.Checks.{noughts}
-use Rattle.collector.proofs.Search.{front}
+use Rattle.collector.proofs.Tests.{and_again}
 use Rattle.collector.proofs.checking.are_nought.Goals as goal
 
-and_again : (a b c : Bool) → ((a && b) && c) ≡ (a && (b && c))
-and_again true b c = refl
-and_again false b c = refl
+-- the larger of two is 0 where both are
+larger : (a b : ℕ) → eqb (max a b) 0 ≡ (eqb a 0 && eqb b 0)
+larger a b =
+    on_bool (eqb a 0)
+    (λ e. on_bool (eqb b 0) (λ f. rw (e, f) (eq-eqb _ _ (omega (arith, eqb-true a 0 e, eqb-true b 0 f)))) (λ f. rw (e, f) (ne_eqb (max a b) 0 (λ z. eqb-false b 0 f (omega arith)))))
+    (λ e. rw e (ne_eqb (max a b) 0 (λ z. eqb-false a 0 e (omega arith))))
 
-and-true : (a : Bool) → (a && true) ≡ a
+and-true : (a : Bool) → a ≡ (a && true)
 and-true true = refl
 and-true false = refl
 
-pub loop-i-init : goal.loop-i-init
-loop-i-init c = refl
-
-pub loop-i-preserved : goal.loop-i-preserved
-loop-i-preserved c =
-    let l = c.loop-i in
-    let o = c.args.octets.now in
-    let rest = noughts (drop (l.i + 1) o) in
-    let one = eqb l.most 0 in
-    ap (λ b. b && rest) c.larger-most.ensures ∙ and_again one (eqb (get_or o l.i 0) 0) rest ∙ sym (ap (λ b. one && b) (ap noughts (front 0 o l.i (search rules)))) ∙ l.invariant
+pub fold-noughts : (most : ℕ) (xs : List ℕ) → eqb (fold max most xs) 0 ≡ (eqb most 0 && noughts xs)
+fold-noughts most [] = and-true (eqb most 0)
+fold-noughts most (x ∷ xs) =
+    fold-noughts (max most x) xs ∙ ap (λ (b : Bool). b && noughts xs) (larger most x) ∙ and_again (eqb most 0) (eqb x 0) (noughts xs)
 
 pub returns : goal.returns
-returns c =
-    let l = c.loop-i in
-    let o = c.args.octets.now in
-    sym (and-true (eqb l.most 0)) ∙ sym (ap (λ b. eqb l.most 0 && b) (ap noughts (drop_of_length-le o {i = l.i} (search rules)))) ∙ l.invariant
+returns c = ap (λ (n : ℕ). eqb n 0) c.largest.ensures ∙ fold-noughts 0 c.args.octets.now

@@ -1,74 +1,41 @@
--- Whatever was passed is legal and new, so the answer is that of what is left behind it.
-use mathlib.Core.Bool.{true, false, ◌&&◌}
-use mathlib.Core.List.{List, ◌∷◌}
-use mathlib.Core.Path.{◌≡◌, refl, sym, ap, ◌∙◌}
-use Prim.Native.Nat.{ℕ, ◌+◌, ◌≤◌, ◌<◌}
+-- Each number is asked whether it is legal and none of those before it, so what is asked of the numbers from one on is what the test says of them behind those before.
+use mathlib.Core.Bool.{Bool, ◌&&◌}
+use mathlib.Core.List.{List}
+use mathlib.Core.Path.{◌≡◌, sym, ap, ◌∙◌}
+use Prim.Native.Nat.{ℕ, ◌+◌, ◌<◌}
 use native.Mathlib.Numerals.{add-one}
 use native.Mathlib.Omega.{arith}
-use lib.Dec.{eqb}
 use lib.ListN.{length, get_or, take, drop, drop_of_length-le}
-use lib.Seq.{get_or-take, length-take-le, take-suc}
+use lib.Seq.{take-suc}
 use borrow.Author.Rules.{rules}
-use borrow.Author.Tests.{eq-eqb, ne_eqb}
+use borrow.Author.Tests.{tests}
+use Rattle.std.proofs.lemmas.Iterator.{YieldsList-from_slice}
+use Rattle.std.proofs.lemmas.Iterator.Consumers.{YieldsList-from_enumerate}
+use Rattle.std.proofs.lemmas.Iterator.Search.{all_from_yields_List}
 use Rattle.pagecode.specs.Page.{legal}
-use Rattle.collector.specs.Steps.{first_index}
 use Rattle.collector.specs.Checks.{is_new, are_numbers}
-use Rattle.collector.proofs.Search.{front}
+use Rattle.collector.proofs.Tests.{and_again}
+use Rattle.collector.proofs.Search.{front, all-from}
 use Rattle.collector.proofs.checking.are_numbers.Goals as goal
-use Rattle.collector.proofs.checking.are_numbers.Invariants.{left}
 
-module _ (size count : ℕ) (numbers : List ℕ) (i : ℕ) (room : count ≤ length numbers) (h : i < count) where
-  abbrev n : ℕ
-  n = get_or numbers i 0
+module _ (size : ℕ) (ns : List ℕ) where
+  -- the numbers from i on, behind the first i
+  abbrev left : ℕ → Bool
+  left i = are_numbers size (take i ns) (drop i ns)
 
-  ahead : left size count numbers i ≡ (legal size n && (is_new n (take i numbers) && left size count numbers (i + 1)))
-  ahead =
-      ap (are_numbers size (take i numbers)) (front 0 (take count numbers) i (omega (arith, length-take-le count numbers room)))
-      ∙ ap (λ (x : ℕ). are_numbers size (take i numbers) (x ∷ drop (i + 1) (take count numbers))) (get_or-take count numbers i 0 h)
-      ∙ ap (λ (before : List ℕ). legal size n && (is_new n (take i numbers) && are_numbers size before (drop (i + 1) (take count numbers))))
-      (sym (take-suc numbers i 0 (omega arith)) ∙ ap (λ (k : ℕ). take k numbers) (sym (add-one i)))
-
-  front_length : length (take i numbers) ≡ i
-  front_length = length-take-le i numbers (omega arith)
-
-  illegal : legal size n ≡ false → left size count numbers i ≡ false
-  illegal e = ahead ∙ rw e
-
-  old : (r : ℕ) → r ≡ first_index (eqb n) (take i numbers) → (r ≡ i → ⊥) → legal size n ≡ true → left size count numbers i ≡ false
-  unfolding is_new
-  old r e d g = ahead ∙ rw (g, ne_eqb (first_index (eqb n) (take i numbers)) (length (take i numbers)) (λ q. d (e ∙ q ∙ front_length)))
-
-  next : (r : ℕ) → r ≡ first_index (eqb n) (take i numbers) → r ≡ i → legal size n ≡ true → left size count numbers i ≡ left size count numbers (i + 1)
-  unfolding is_new
-  next r e d g = ahead ∙ rw (g, eq-eqb (first_index (eqb n) (take i numbers)) (length (take i numbers)) (sym e ∙ d ∙ sym front_length))
-
-pub loop-i-init : goal.loop-i-init
-loop-i-init c = (search rules, refl)
-
-pub returns-then-not-is_legal : goal.returns-then-not-is_legal
-returns-then-not-is_legal c =
-    let l = c.loop-i in
-    let a = c.args in
-    sym (illegal a.size a.count a.numbers l.i (search rules) (search rules) (sym c.is_legal.ensures ∙ c.if-not-is_legal.true)) ∙ l.invariant.1
-
-pub returns-then-find_number-i : goal.returns-then-find_number-i
-returns-then-find_number-i c =
-    let l = c.loop-i in
-    let a = c.args in
-    sym (old a.size a.count a.numbers l.i (search rules) (search rules) c.find_number.result c.find_number.ensures c.if-find_number-i.true
-    (sym c.is_legal.ensures ∙ c.if-not-is_legal.false)) ∙ l.invariant.1
-
-pub loop-i-preserved : goal.loop-i-preserved
-loop-i-preserved c =
-    let l = c.loop-i in
-    let a = c.args in (
-      search rules,
-      sym (next a.size a.count a.numbers l.i (search rules) (search rules) c.find_number.result c.find_number.ensures c.if-find_number-i.false
-          (sym c.is_legal.ensures ∙ c.if-not-is_legal.false)) ∙ l.invariant.1,
-    )
+  ahead : (i : ℕ) → i < length ns → left i ≡ ((legal size (get_or ns i 0) && is_new (get_or ns i 0) (take i ns)) && left (i + 1))
+  ahead i h =
+      let n = get_or ns i 0 in
+      ap (are_numbers size (take i ns)) (front 0 ns i h)
+      ∙ ap (λ (before : List ℕ). legal size n && (is_new n (take i ns) && are_numbers size before (drop (i + 1) ns)))
+      (sym (take-suc ns i 0 h) ∙ ap (λ (j : ℕ). take j ns) (sym (add-one i)))
+      ∙ sym (and_again (legal size n) (is_new n (take i ns)) (left (i + 1)))
 
 pub returns : goal.returns
 returns c =
-    let l = c.loop-i in
     let a = c.args in
-    sym (ap (are_numbers a.size (take l.i a.numbers)) (drop_of_length-le (take a.count a.numbers) {i = l.i} (omega (arith, length-take-le a.count a.numbers (search rules))))) ∙ l.invariant.1
+    let ns = a.numbers.now in
+    all_from_yields_List (λ (x : ℕ × ℕ). legal a.size x.1 && is_new x.1 (take x.0 ns)) _ _ _ c.all.ensures.ran
+    (YieldsList-from_enumerate (YieldsList-from_slice ns (cc)) (cc)) (λ x b q k. search (rules, tests))
+    ∙ all-from _ (left a.size ns) 0 ns (λ i h. ahead a.size ns i (omega arith))
+    (ap (are_numbers a.size (take (length ns) ns)) (drop_of_length-le ns {i = length ns} (omega arith)))

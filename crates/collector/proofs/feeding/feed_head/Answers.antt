@@ -1,61 +1,60 @@
 -- Each early return is the first check that fails, and leaves everything. Behind the clock the head and the store hold the collector ticked, so the rest is `receive`.
-use mathlib.Core.Path.{sym, subst}
+use mathlib.Core.List.{List}
+use mathlib.Core.Path.{refl, subst}
+use Prim.Native.Nat.{ℕ}
 use native.Mathlib.Omega.{arith}
 use Rattle.refusal.specs.declared.Refusal.TheVariants.{Length, Out, Second, Clock}
-use Rattle.collector.specs.Feed.{Step, tick}
+use Rattle.collector.specs.Feed.{tick, judge, received}
 use Rattle.collector.specs.Steps.{Does}
-use Rattle.collector.proofs.Steady.{state-last, state-holds, refuses, ticked, feed-length, feed-out, feed-second, feed-clock, feed-on}
+use Rattle.collector.proofs.Meeting.{does_as}
+use Rattle.collector.proofs.Steady.{left_as, state-last, state-holds, refuses, ticked, feed-length, feed-out, feed-second, feed-clock, feed-on}
 use Rattle.collector.proofs.feeding.feed_head.Goals as goal
 
-pub returns-then-page-ne56 : goal.returns-then-page-ne56
-returns-then-page-ne56 c m s =
+pub returns-in_default : goal.returns-in_default
+returns-in_default c m s =
     let a = c.args in
-    refuses _ Length m a.head a.store.now a.out.now c.refuse.result
-    (feed-length m _ c.if-page-ne56.true) s.head s.store c.refuse.ensures
+    refuses _ Length m a.head.now a.store.now a.out.now (feed-length m _ c.in_default.ensures.cases) s.head s.store
 
-pub returns-then-out-ne-PLACE_OCTETS : goal.returns-then-out-ne-PLACE_OCTETS
-returns-then-out-ne-PLACE_OCTETS c m s =
+pub returns-in_default-as_mut_array : goal.returns-in_default-as_mut_array
+returns-in_default-as_mut_array c m s =
     let a = c.args in
-    refuses _ Out m a.head a.store.now a.out.now c.refuse-then-out-ne-PLACE_OCTETS.result
-    (feed-out m _ c.if-page-ne56.false c.if-out-ne-PLACE_OCTETS.true) s.head s.store c.refuse-then-out-ne-PLACE_OCTETS.ensures
+    refuses _ Out m a.head.now a.store.now a.out.now (feed-out m _ c.in-Some.ensures.cases.long c.in_default-as_mut_array.ensures.cases) s.head s.store
 
 pub returns-then-second-gt-LAST_SECOND : goal.returns-then-second-gt-LAST_SECOND
 returns-then-second-gt-LAST_SECOND c m s =
     let a = c.args in
-    refuses _ Second m a.head a.store.now a.out.now c.refuse-then-second-gt-LAST_SECOND.result
-    (feed-second m _ c.if-page-ne56.false c.if-out-ne-PLACE_OCTETS.false c.if-second-gt-LAST_SECOND.true)
-    s.head s.store c.refuse-then-second-gt-LAST_SECOND.ensures
+    let page = c.in-Some.ensures.cases in
+    let out = c.in-Some-as_mut_array.ensures.cases in
+    left_as out.same
+    (refuses _ Second m a.head.now a.store.now a.out.now (feed-second m _ page.long out.long c.if-second-gt-LAST_SECOND.true) s.head s.store)
 
 pub returns-then-second-head : goal.returns-then-second-head
 returns-then-second-head c m s =
     let a = c.args in
-    refuses _ Clock m a.head a.store.now a.out.now c.refuse-then-second-head.result
-    (feed-clock m _ c.if-page-ne56.false c.if-out-ne-PLACE_OCTETS.false c.if-second-gt-LAST_SECOND.false
-    (omega (arith, state-last m a.head a.store.now s)))
-    s.head s.store c.refuse-then-second-head.ensures
+    let page = c.in-Some.ensures.cases in
+    let out = c.in-Some-as_mut_array.ensures.cases in
+    left_as out.same
+    (refuses _ Clock m a.head.now a.store.now a.out.now
+    (feed-clock m _ page.long out.long c.if-second-gt-LAST_SECOND.false (omega (arith, state-last m a.head.now a.store.now s))) s.head s.store)
 
-pub tick_places-ticked-requires : goal.tick_places-ticked-requires
-tick_places-ticked-requires c =
-    (c.requires.0.places, state-holds c.requires.0 c.args.head c.args.store.now c.requires.1)
+pub tick_places-requires : goal.tick_places-requires
+tick_places-requires c =
+    (c.requires.0.places, state-holds c.requires.0 c.args.head.now c.args.store.now c.requires.1)
 
 pub receive-requires : goal.receive-requires
 receive-requires c =
-    let a = c.args in (
-      c.if-page-ne56.false,
-      c.if-out-ne-PLACE_OCTETS.false,
-      (
-        tick a.second c.requires.0,
-        ticked c.requires.0 a.head c.with_places-next.result a.store.now c.tick_places-ticked.new.store a.second c.tick_places-ticked.result c.requires.1
-            c.if-second-head.false c.if-second-gt-LAST_SECOND.false c.tick_places-ticked.ensures c.with_places-next.ensures,
-      ),
-    )
+    let a = c.args in
+    (tick a.second c.requires.0, ticked c.requires.0 a.head.now _ a.store.now c.tick_places.new.store a.second c.tick_places.new.places c.requires.1 c.if-second-head.false c.if-second-gt-LAST_SECOND.false c.tick_places.ensures refl)
 
 pub returns : goal.returns
 returns c m s =
     let a = c.args in
-    subst (λ (x : Step). Does x a.out.now c.receive.result c.receive.new.store c.receive.new.out)
-    (sym (feed-on m _ c.if-page-ne56.false c.if-out-ne-PLACE_OCTETS.false c.if-second-gt-LAST_SECOND.false
-    (omega (arith, state-last m a.head a.store.now s))))
-    (c.receive.ensures (tick a.second m)
-    (ticked m a.head c.with_places-next.result a.store.now c.tick_places-ticked.new.store a.second c.tick_places-ticked.result s
-    c.if-second-head.false c.if-second-gt-LAST_SECOND.false c.tick_places-ticked.ensures c.with_places-next.ensures))
+    let page = c.in-Some.ensures.cases in
+    let out = c.in-Some-as_mut_array.ensures.cases in
+    let r = c.receive in
+    does_as
+    (feed-on m _ page.long out.long c.if-second-gt-LAST_SECOND.false (omega (arith, state-last m a.head.now a.store.now s)))
+    (subst (λ (o : List ℕ). Does (received (tick a.second m) a.second (judge a.page.now)) o r.result r.new.head r.new.store r.new.out) out.same
+    (subst (λ (p : List ℕ). Does (received (tick a.second m) a.second (judge p)) c.in-Some-as_mut_array.out.now r.result r.new.head r.new.store r.new.out) page.same
+    (r.ensures (tick a.second m)
+    (ticked m a.head.now _ a.store.now c.tick_places.new.store a.second c.tick_places.new.places s c.if-second-head.false c.if-second-gt-LAST_SECOND.false c.tick_places.ensures refl))))

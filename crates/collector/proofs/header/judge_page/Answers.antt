@@ -37,8 +37,8 @@ returns-then-not-is_legal c =
     c.if-key-eq3.false
     c.if-key-eq2.false
     (sym c.kind_of.ensures ∙ c.if-kind_of-ne1.false)
-    (λ i. (c.type_inv.page i).fits)
-    (rw (c.wide-size.ensures, c.wide-wide_number.ensures) at (sym c.is_legal.ensures ∙ c.if-not-is_legal.true))
+    c.fits-page
+    (rw (c.from.ensures, c.from-2.ensures) at (sym c.is_legal.ensures ∙ c.if-not-is_legal.true))
 
 pub returns : goal.returns
 returns c =
@@ -50,5 +50,5 @@ returns c =
     c.if-key-eq3.false
     c.if-key-eq2.false
     (sym c.kind_of.ensures ∙ c.if-kind_of-ne1.false)
-    (λ i. (c.type_inv.page i).fits)
-    (rw (c.wide-size.ensures, c.wide-wide_number.ensures) at (sym c.is_legal.ensures ∙ c.if-not-is_legal.false))
+    c.fits-page
+    (rw (c.from.ensures, c.from-2.ensures) at (sym c.is_legal.ensures ∙ c.if-not-is_legal.false))

@@ -4,10 +4,10 @@ use borrow.Author.Tests.{le-leb, lt-leb}
 use Rattle.collector.specs.Feed.{startable}
 use Rattle.collector.proofs.starting.is_startable.Goals as goal
 
-pub returns-then-timeout-lt1 : goal.returns-then-timeout-lt1
+pub returns-then-timeout-ge1 : goal.returns-then-timeout-ge1
 unfolding startable
-returns-then-timeout-lt1 c = rw (lt-leb 1 c.args.timeout (omega arith))
+returns-then-timeout-ge1 c = rw (le-leb 1 c.args.timeout (omega arith))
 
-pub returns : goal.returns
+pub returns-else-timeout-ge1 : goal.returns-else-timeout-ge1
 unfolding startable
-returns c = rw (le-leb 1 c.args.timeout (omega arith))
+returns-else-timeout-ge1 c = rw (lt-leb 1 c.args.timeout (omega arith))

@@ -1,32 +1,37 @@
 -- The checks in their order; behind them the head of a fresh collector is written, and zeros.
+use mathlib.Core.List.{List}
 use mathlib.Core.Path.{sym, ap, ◌∙◌}
 use Prim.Native.Nat.{ℕ}
 use lib.ListN.{replicate}
 use Rattle.image.proofs.Starts.{held, start-length, start-timeout, start-good}
-use Rattle.image.proofs.Lengths.{long-head, long-store}
+use Rattle.image.proofs.Lengths.{is-long, head-not, store-not}
 use Rattle.image.proofs.calls.start.Goals as goal
 
-pub returns-then-not-are_long : goal.returns-then-not-are_long
-returns-then-not-are_long c =
-    let a = c.args in
-    start-length (held a.head.now a.store.now) a.timeout (sym c.are_long.ensures ∙ c.if-not-are_long.true)
+pub returns-in_default : goal.returns-in_default
+returns-in_default c =
+    let i = held c.args.head.now c.args.store.now in
+    start-length i c.args.timeout (head-not i c.in_default.ensures.cases)
+
+pub returns-then-store-ne-STORE_OCTETS : goal.returns-then-store-ne-STORE_OCTETS
+returns-then-store-ne-STORE_OCTETS c =
+    let i = held c.args.head.now c.args.store.now in
+    let octets = c.in-Some.ensures.cases in
+    let s = start-length i c.args.timeout (store-not i octets.long c.if-store-ne-STORE_OCTETS.true) in
+    (s.0, ap (λ (h : List ℕ). held h c.args.store.now) octets.same ∙ s.1)
 
 pub returns-then-not-is_startable : goal.returns-then-not-is_startable
 returns-then-not-is_startable c =
-    let a = c.args in
-    start-timeout (held a.head.now a.store.now) a.timeout (sym c.are_long.ensures ∙ c.if-not-are_long.false)
-    (sym c.is_startable.ensures ∙ c.if-not-is_startable.true)
-
-pub write_head-requires : goal.write_head-requires
-write_head-requires c =
-    long-head _ (sym c.are_long.ensures ∙ c.if-not-are_long.false)
+    let i = held c.args.head.now c.args.store.now in
+    let octets = c.in-Some.ensures.cases in
+    let s = start-timeout i c.args.timeout (is-long i octets.long c.if-store-ne-STORE_OCTETS.false) (sym c.is_startable.ensures ∙ c.if-not-is_startable.true) in
+    (s.0, ap (λ (h : List ℕ). held h c.args.store.now) octets.same ∙ s.1)
 
 pub returns : goal.returns
 returns c =
-    let a = c.args in
-    let long = sym c.are_long.ensures ∙ c.if-not-are_long.false in
-    start-good (held a.head.now a.store.now) a.timeout _ _ _ long
+    let i = held c.args.head.now c.args.store.now in
+    let long = c.if-store-ne-STORE_OCTETS.false in
+    start-good i c.args.timeout _ _ _ (is-long i c.in-Some.ensures.cases.long long)
     (sym c.is_startable.ensures ∙ c.if-not-is_startable.false)
-    c.fresh_head-fresh.ensures
+    c.fresh_head.ensures
     c.write_head.ensures
-    (c.clear_store.ensures ∙ ap (λ (n : ℕ). replicate n 0) (long-store (held a.head.now a.store.now) long))
+    (c.clear_store.ensures ∙ ap (λ (n : ℕ). replicate n 0) long)

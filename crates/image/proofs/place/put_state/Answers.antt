@@ -7,5 +7,5 @@ pub returns : goal.returns
 returns c =
     let a = c.args in
     state-laid a.out.now a.at a.kind a.key.status a.key.number a.key.size a.first a.count _ _ (omega arith)
-    c.put_four.ensures
+    c.put_octets.ensures
     c.put_word.ensures

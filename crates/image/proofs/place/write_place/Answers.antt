@@ -6,13 +6,10 @@ use borrow.Author.Rules.{rules}
 use Rattle.image.proofs.Parts.{place-laid, place-length}
 use Rattle.image.proofs.place.write_place.Goals as goal
 
-pub put_octets-requires : goal.put_octets-requires
-put_octets-requires c = let n : length c.args.place.numbers ≡ 32 = search rules in omega (arith, n)
-
 pub returns : goal.returns
 returns c =
     let a = c.args in
-    let n : length a.place.numbers ≡ 32 = search rules in (
-      place-laid a.out.now a.at a.place _ _ (omega arith) n c.write_state.ensures c.put_octets.ensures,
-      place-length a.place n,
+    let n : length a.place.now.numbers ≡ 32 = search rules in (
+      place-laid a.out.now a.at a.place.now _ _ (omega arith) n c.write_state.ensures c.put_octets.ensures,
+      place-length a.place.now n,
     )

@@ -1,29 +1,18 @@
--- The result is the sum: each turn sets one element of it.
-use mathlib.Core.Path.{◌≡◌, refl, sym}
+-- A row is as long as the part of a line that is added to it.
+use mathlib.Core.Path.{◌≡◌}
 use native.Mathlib.Omega.{arith}
 use lib.ListN.{length, take, length-take}
-use lib.Seq.{get_or-take}
 use borrow.Author.Rules.{rules}
-use Rattle.pagecode.specs.Field.{◌⊕◌}
-use Rattle.pagecode.proofs.Lines.{sum-next, sum_done}
 use Rattle.pagecode.proofs.elimination.add_row.Goals as goal
 
-pub loop-j-init : goal.loop-j-init
-loop-j-init c = (refl, search rules)
+pub slice_bounds-add-end-2 : goal.slice_bounds-add-end-2
+slice_bounds-add-end-2 c =
+    let to : length c.args.a ≡ 96 = search rules in
+    let part : length (take 32 c.args.a) ≡ 32 = omega (arith, length-take 32 c.args.a) in
+    search (rules, part)
 
-pub loop-j-preserved : goal.loop-j-preserved
-unfolding ◌⊕◌
-loop-j-preserved c =
-    let a = c.args in
-    let l = c.loop-j in
-    let from : length a.row ≡ 32 = search rules in
-    let to : length a.a ≡ 96 = search rules in
-    (sum-next a.row (take 32 a.a) (omega (arith, length-take 32 a.a)) l.s l.j _ (search rules) (sym (get_or-take 32 a.a l.j 0 (search rules))) l.invariant.0, search rules)
-
-pub returns : goal.returns
-returns c =
-    let a = c.args in
-    let l = c.loop-j in
-    let from : length a.row ≡ 32 = search rules in
-    let to : length a.a ≡ 96 = search rules in
-    sum_done a.row (take 32 a.a) (omega (arith, length-take 32 a.a)) l.s l.j (search rules) l.invariant.0
+pub add-requires : goal.add-requires
+add-requires c =
+    let from : length c.args.row ≡ 32 = search rules in
+    let to : length c.args.a ≡ 96 = search rules in
+    omega (arith, length-take 32 c.args.a)

@@ -5,11 +5,8 @@ use native.Mathlib.Omega.{arith}
 use borrow.Author.Rules.{rules}
 use Rattle.pagecode.specs.System.{cell}
 use Rattle.pagecode.proofs.Cells.{cell-low}
-use Rattle.pagecode.proofs.Steps.{seek-start, seek-next, seek_found, seek-end}
+use Rattle.pagecode.proofs.Steps.{seek-next, seek_found}
 use Rattle.pagecode.proofs.elimination.find_pivot.Goals as goal
-
-pub loop-r-init : goal.loop-r-init
-loop-r-init c = seek-start c.args.k c.args.q (cell c.args.square []) (search rules)
 
 pub returns-then-square-r-ne0 : goal.returns-then-square-r-ne0
 returns-then-square-r-ne0 c =
@@ -22,8 +19,3 @@ loop-r-preserved c =
     let a = c.args in
     let r = c.loop-r.r in
     seek-next a.k a.q r (cell a.square []) (search rules) (cell-low a.square [] r a.q (omega arith) ∙ c.if-square-r-ne0.false) c.loop-r.invariant
-
-pub returns : goal.returns
-returns c =
-    let a = c.args in
-    absurd (seek-end a.k a.q c.loop-r.r (cell a.square []) (search rules) c.loop-r.invariant c.requires.2)

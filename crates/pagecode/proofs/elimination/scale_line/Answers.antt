@@ -1,5 +1,5 @@
--- The result is the multiple: 0 times a line is 0, and else each turn sets one element of it.
-use mathlib.Core.Path.{◌≡◌, refl, sym, ap, ◌∙◌}
+-- The line becomes the multiple: 0 times a line is 0, and else each turn sets one element of it.
+use mathlib.Core.Path.{◌≡◌, sym, ap, ◌∙◌}
 use Prim.Native.Nat.{ℕ}
 use lib.ListN.{length, get_or, replicate}
 use borrow.Author.Rules.{rules}
@@ -14,21 +14,11 @@ returns-then-f-eq0 c =
     let long : length a.a ≡ 96 = search rules in
     sym (ap (λ (f : ℕ). scale f a.a) c.if-f-eq0.true ∙ scale-none a.a ∙ ap (λ (n : ℕ). replicate n 0) long)
 
-pub loop-j-init : goal.loop-j-init
-loop-j-init c = (refl, search rules)
-
-pub loop-j-preserved : goal.loop-j-preserved
-loop-j-preserved c =
-    let a = c.args in
-    let l = c.loop-j in
-    let long : length a.a ≡ 96 = search rules in (
-      scale-next a.f (replicate 96 0) a.a (sym long) l.s l.j c.product.result (search rules) (c.product.ensures ∙ ⊗-comm (get_or a.a l.j 0) a.f) l.invariant.0,
-      search rules,
-    )
+pub loop-x-preserved : goal.loop-x-preserved
+loop-x-preserved c =
+    let f = c.args.f in
+    let l = c.loop-x in
+    scale-next f c.args.a l.x-items l.x-index c.product.result (search rules) (c.product.ensures ∙ ⊗-comm (get_or l.x-items l.x-index 0) f) l.invariant
 
 pub returns : goal.returns
-returns c =
-    let a = c.args in
-    let l = c.loop-j in
-    let long : length a.a ≡ 96 = search rules in
-    scale-done a.f (replicate 96 0) a.a (sym long) l.s l.j (search rules) l.invariant.0
+returns c = scale-done c.args.f c.args.a c.loop-x.x-items c.loop-x.x-index (search rules) c.loop-x.invariant

@@ -1,11 +1,7 @@
--- The result is the multiple: 0 times a line is 0, and else each turn sets one element of it.
-use Prim.Native.Nat.{◌-◌, ◌≤◌}
+-- The line becomes the multiple: each turn sets one element of it.
 use Rattle.pagecode.specs.Code.{scale}
 use Rattle.pagecode.proofs.Fill.{Filled}
 use Rattle.pagecode.proofs.elimination.scale_line.Given as goal
 
-abbrev pub invariant-loop-j : goal.invariant-loop-j
-invariant-loop-j l = Filled l.initial.s (scale l.f l.a) l.s l.j × (l.j ≤ 96)
-
-abbrev pub decreases-loop-j : goal.decreases-loop-j
-decreases-loop-j l = 96 - l.j
+abbrev pub invariant-loop-x : goal.invariant-loop-x
+invariant-loop-x l = Filled l.fn.a (scale l.fn.f l.fn.a) l.x-items l.x-index

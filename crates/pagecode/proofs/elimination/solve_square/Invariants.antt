@@ -1,12 +1,6 @@
 -- The right sides become the solution: each turn clears one column more, and a regular square always has a row with an entry there.
-use mathlib.Core.Path.{◌≡◌}
-use Prim.Native.Nat.{◌-◌}
-use lib.ListN.{length}
 use Rattle.pagecode.proofs.Reduced.{SolveLoop}
 use Rattle.pagecode.proofs.elimination.solve_square.Given as goal
 
 abbrev pub invariant-loop-q : goal.invariant-loop-q
-invariant-loop-q l = SolveLoop l.k l.initial.n l.initial.sides l.n l.sides l.q × (length l.low ≡ 16) × (length l.high ≡ 16)
-
-abbrev pub decreases-loop-q : goal.decreases-loop-q
-decreases-loop-q l = l.k - l.q
+invariant-loop-q l = SolveLoop l.k l.initial.n l.initial.sides l.n l.sides l.q

@@ -6,4 +6,4 @@ use Rattle.pagecode.proofs.field.inverse.Goals as goal
 
 pub returns : goal.returns
 unfolding inverses
-returns c = rw c.wide.ensures (inverse-of c.args.a (omega arith))
+returns c = rw c.from.ensures (inverse-of c.args.a (omega arith))

@@ -6,4 +6,4 @@ use Rattle.pagecode.proofs.field.logarithm.Goals as goal
 
 pub returns : goal.returns
 unfolding logs
-returns c = rw c.wide.ensures (logarithm-of c.args.a (omega arith))
+returns c = rw c.from.ensures (logarithm-of c.args.a (omega arith))

@@ -1,20 +1,36 @@
--- The code's sum is `shift_add 8` written out.
-use mathlib.Core.Path.{◌≡◌, refl, ap}
-use Prim.Native.Nat.{ℕ, ◌*◌, ◌/◌, ◌%◌, ◌<◌}
+-- Each turn moves one summand of `shift_add` into the sum.
+-- The lowest bit of a without its first i bits is bit i, and the half of that is a without one more.
+use mathlib.Core.Path.{◌≡◌, sym, ap, ap₂, ◌∙◌}
+use Prim.Native.Nat.{ℕ, suc, ◌+◌, ◌-◌, ◌*◌, ◌/◌, ◌%◌, ◌^◌, ◌<◌}
 use native.Mathlib.Omega.{arith}
-use lib.Bits.{bit_xor}
-use Rattle.pagecode.specs.Field.{double, shift_add, ◌⊗◌}
+use lib.Pow.{shr-shr}
+use Rattle.pagecode.specs.Field.{◌⊕◌, ◌⊗◌, double, shift_add}
+use Rattle.pagecode.proofs.Linear.{add_step, ⊕-assoc, ⊕-zero, zero-⊕}
 use Rattle.pagecode.proofs.field.product.Goals as goal
 
-written_out : (a b : ℕ) → shift_add 8 a b ≡ bit_xor (a % 2 * b) (bit_xor ((a / 2) % 2 * (double b)) (bit_xor ((a / 2 / 2) % 2 * (double (double b))) (bit_xor ((a / 2 / 2 / 2) % 2 * (double (double (double b)))) (bit_xor ((a / 2 / 2 / 2 / 2) % 2 * (double (double (double (double b))))) (bit_xor ((a / 2 / 2 / 2 / 2 / 2) % 2 * (double (double (double (double (double b)))))) (bit_xor ((a / 2 / 2 / 2 / 2 / 2 / 2) % 2 * (double (double (double (double (double (double b))))))) (bit_xor ((a / 2 / 2 / 2 / 2 / 2 / 2 / 2) % 2 * (double (double (double (double (double (double (double b)))))))) 0)))))))
-unfolding shift_add
-written_out a b = refl
+summand : (a turn i : ℕ) → i < 8 → shift_add (8 - i) (a / 2 ^ i) turn ≡ a / 2 ^ i % 2 * turn ⊕ shift_add (8 - (i + 1)) (a / 2 ^ (i + 1)) (double turn)
+summand a turn i h =
+    let left : 8 - i ≡ suc (8 - (i + 1)) = omega arith in
+    ap (λ (n : ℕ). shift_add n (a / 2 ^ i) turn) left
+    ∙ add_step (8 - (i + 1)) (a / 2 ^ i) turn
+    ∙ ap (λ (x : ℕ). a / 2 ^ i % 2 * turn ⊕ shift_add (8 - (i + 1)) x (double turn)) (shr-shr a i 1)
 
-of-octets : (a b : ℕ) → b < 256 → a ⊗ b ≡ shift_add 8 a b
+pub loop-bit-init : goal.loop-bit-init
 unfolding ◌⊗◌
-of-octets a b h = ap (shift_add 8 a) (omega arith)
+loop-bit-init c =
+    let whole : c.args.a / 2 ^ 0 ≡ c.args.a = omega arith in
+    let octet : c.args.b ≡ c.args.b % 256 = omega (arith, c.ranges) in
+    zero-⊕ _ ∙ ap₂ (shift_add 8) whole octet
+
+pub loop-bit-preserved : goal.loop-bit-preserved
+unfolding ◌⊕◌
+loop-bit-preserved c =
+    let l = c.loop-bit in
+    rw c.doubled-turn.ensures (⊕-assoc l.total _ _ ∙ ap (λ (x : ℕ). l.total ⊕ x) (sym (summand c.args.a l.turn l.bit c.loop-bit-test.true)) ∙ l.invariant)
 
 pub returns : goal.returns
+unfolding shift_add
 returns c =
-    let octet : c.args.b < 256 = omega (arith, c.ranges) in
-    cc (of-octets c.args.a c.args.b octet, written_out c.args.a c.args.b)
+    let l = c.loop-bit in
+    let all : 8 - l.bit ≡ 0 = omega (arith, c.loop-bit-test.false) in
+    sym (⊕-zero l.total) ∙ ap (λ (n : ℕ). l.total ⊕ shift_add n (c.args.a / 2 ^ l.bit) l.turn) (sym all) ∙ l.invariant

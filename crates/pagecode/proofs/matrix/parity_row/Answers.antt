@@ -3,7 +3,6 @@ use mathlib.Core.Path.{◌≡◌, refl, ap, ◌∙◌}
 use Prim.Native.Nat.{ℕ, ◌-◌}
 use native.Mathlib.Omega.{arith}
 use lib.ListN.{get_or, replicate}
-use borrow.Author.Rules.{rules}
 use Rattle.pagecode.specs.Field.{◌⊕◌, ◌⊗◌}
 use Rattle.pagecode.specs.Matrix.{matrix_row}
 use Rattle.pagecode.proofs.Fill.{fill-next, fill_done}
@@ -13,7 +12,7 @@ use Rattle.pagecode.proofs.Rows.{row-length, row-octet}
 use Rattle.pagecode.proofs.matrix.parity_row.Goals as goal
 
 pub loop-j-init : goal.loop-j-init
-loop-j-init c = (search rules, refl)
+loop-j-init c = refl
 
 pub loop-j-preserved : goal.loop-j-preserved
 unfolding coefficients weights
@@ -29,9 +28,9 @@ loop-j-preserved c =
     let page : factor.result ≡ get_or coefficients (p - 33) 0 ⊗ (y ⊕ 9) = factor.ensures ∙ ap (λ (x : ℕ). get_or coefficients (p - 33) 0 ⊗ x) sum.ensures in
     let made : c.product-in-loop-j.result ≡ r ⊗ get_or weights turn.j 0 ⊗ factor.result = c.product-in-loop-j.ensures ∙ ap (λ (x : ℕ). x ⊗ factor.result) c.product.ensures in
     let octet = row-octet p turn.j y factor.result r c.product-in-loop-j.result c.requires.0 c.requires.1 (omega arith) power.ensures page (inverted.ensures turn.j (omega arith)) made in
-    (omega arith, fill-next 0 (replicate 32 0) (matrix_row p) turn.row turn.j c.product-in-loop-j.result turn.invariant.1 octet (omega arith) (omega (arith, row-length p)))
+    fill-next 0 (replicate 32 0) (matrix_row p) turn.x-items turn.j c.product-in-loop-j.result turn.invariant octet (omega arith) (omega (arith, row-length p))
 
 pub returns : goal.returns
 returns c =
     let p : ℕ = c.args.p in
-    fill_done 0 (replicate 32 0) (matrix_row p) c.loop-j.row c.loop-j.j c.loop-j.invariant.1 (omega arith) (omega (arith, row-length p))
+    fill_done 0 (replicate 32 0) (matrix_row p) c.loop-j.x-items c.loop-j.j c.loop-j.invariant (omega arith) (omega (arith, row-length p))

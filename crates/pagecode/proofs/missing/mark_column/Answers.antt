@@ -6,4 +6,4 @@ pub returns-then-p-eq0 : goal.returns-then-p-eq0
 returns-then-p-eq0 c = simp (eq-eqb _ 0 c.if-p-eq0.true)
 
 pub returns : goal.returns
-returns c = simp (ne_eqb _ 0 c.if-p-eq0.false)
+returns c = rw c.from.ensures (simp (ne_eqb _ 0 c.if-p-eq0.false))

@@ -1,10 +1,7 @@
 -- Each turn marks the column of one page more.
-use Prim.Native.Nat.{◌-◌}
+use lib.ListN.{length}
 use Rattle.pagecode.proofs.Noughts.{Marking}
 use Rattle.pagecode.proofs.missing.mark_columns.Given as goal
 
-abbrev pub invariant-loop-i : goal.invariant-loop-i
-invariant-loop-i l = Marking l.k l.plain l.marks l.i
-
-abbrev pub decreases-loop-i : goal.decreases-loop-i
-decreases-loop-i l = l.k - l.i
+abbrev pub invariant-loop-p : goal.invariant-loop-p
+invariant-loop-p l = Marking (length l.plain) l.plain l.marks l.p-index

@@ -1,17 +1,34 @@
 -- Whatever was passed stands nowhere behind its place, so the whole list is what is left of it.
-use mathlib.Core.Bool.{true, not, ◌&&◌}
-use mathlib.Core.List.{List}
-use mathlib.Core.Path.{◌≡◌, refl, sym, ap, ◌∙◌}
-use Prim.Native.Nat.{ℕ, ◌+◌, ◌≤◌, ◌<◌}
-use lib.ListN.{length, get_or, drop, drop_of_length-le}
+use mathlib.Core.Bool.{Bool, true, not, ◌&&◌, ◌||◌}
+use mathlib.Core.List.{List, [], ◌∷◌}
+use mathlib.Core.Path.{◌≡◌, refl, sym, ap, ap₂, ◌∙◌}
+use Prim.Native.Nat.{ℕ, ◌+◌, ◌-◌, ◌≤◌, ◌<◌}
+use lib.Dec.{eqb}
+use lib.ListN.{length, get_or, drop, take, drop_of_length-le}
 use borrow.Author.Rules.{rules}
+use Rattle.std.proofs.Common.{arith}
+use Rattle.std.proofs.lemmas.Slice.{between_to_end}
+use Rattle.std.specs.List.{list_any}
 use Rattle.pagecode.specs.Solve.{is_in, different}
 use Rattle.pagecode.proofs.Walk.{front}
 use Rattle.pagecode.proofs.numbers.all_different.Goals as goal
 
-passed : (numbers : List ℕ) (i : ℕ) → i < length numbers → different (drop i numbers) ≡ not (is_in (get_or numbers i 0) (drop (i + 1) numbers)) && different (drop (i + 1) numbers)
+swapped : (p q : ℕ) → eqb q p ≡ eqb p q
+swapped p q = grind arith
+
+found : (p : ℕ) (ps : List ℕ) → list_any (λ q. eqb q p) ps ≡ is_in p ps
+unfolding is_in
+found p [] = refl
+found p (q ∷ ps) = ap₂ ◌||◌ (swapped p q) (found p ps)
+
+-- what stands at place i, then what is left
+passed : (numbers : List ℕ) (i : ℕ) (r : Bool) → i < length numbers → r ≡ list_any (λ q. eqb q (get_or numbers i 0)) (take (length numbers - (i + 1)) (drop (i + 1) numbers))
+    → different (drop i numbers) ≡ not r && different (drop (i + 1) numbers)
 unfolding different
-passed numbers i h = ap different (front numbers i h)
+passed numbers i r h e =
+    let p = get_or numbers i 0 in
+    ap different (front numbers i h)
+    ∙ ap (λ b. not b && different (drop (i + 1) numbers)) (sym (e ∙ ap (list_any (λ q. eqb q p)) (between_to_end numbers (i + 1) (length numbers) (omega arith)) ∙ found p (drop (i + 1) numbers)))
 
 ended : (numbers : List ℕ) (i : ℕ) → length numbers ≤ i → different (drop i numbers) ≡ true
 unfolding different
@@ -20,17 +37,17 @@ ended numbers i h = ap different (drop_of_length-le numbers {i = i} h)
 pub loop-i-init : goal.loop-i-init
 loop-i-init c = refl
 
-pub returns-then-is_in : goal.returns-then-is_in
-returns-then-is_in c =
+pub returns-then-contains : goal.returns-then-contains
+returns-then-contains c =
     let l = c.loop-i in
     let numbers = c.args.numbers.now in
-    sym (passed numbers l.i (search rules) ∙ ap (λ b. not b && different (drop (l.i + 1) numbers)) (sym c.is_in.ensures ∙ c.if-is_in.true)) ∙ l.invariant
+    sym (passed numbers l.i _ c.loop-i-test.true (sym c.if-contains.true ∙ c.contains.ensures.value)) ∙ l.invariant
 
 pub loop-i-preserved : goal.loop-i-preserved
 loop-i-preserved c =
     let l = c.loop-i in
     let numbers = c.args.numbers.now in
-    sym (passed numbers l.i (search rules) ∙ ap (λ b. not b && different (drop (l.i + 1) numbers)) (sym c.is_in.ensures ∙ c.if-is_in.false)) ∙ l.invariant
+    sym (passed numbers l.i _ c.loop-i-test.true (sym c.if-contains.false ∙ c.contains.ensures.value)) ∙ l.invariant
 
 pub returns : goal.returns
 returns c =

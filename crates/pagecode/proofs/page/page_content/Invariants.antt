@@ -1,7 +1,7 @@
 -- The loop's array is the content for the message's first i pages: a turn adds the next page times its entry.
 use mathlib.Core.Path.{◌≡◌}
 use mathlib.Core.List.{List}
-use Prim.Native.Nat.{ℕ, ◌-◌, ◌≤◌}
+use Prim.Native.Nat.{ℕ, ◌≤◌}
 use Rattle.pagecode.specs.Page.{content}
 use Rattle.pagecode.proofs.page.page_content.Given as goal
 
@@ -11,6 +11,3 @@ pub record Inv (m : List ℕ) (k p : ℕ) (c : List ℕ) (i : ℕ) : Type 0 wher
 
 abbrev pub invariant-loop-i : goal.invariant-loop-i
 invariant-loop-i l = Inv l.message l.k l.p l.c l.i
-
-abbrev pub decreases-loop-i : goal.decreases-loop-i
-decreases-loop-i l = l.k - l.i

@@ -1,7 +1,7 @@
 -- The loop copies the content behind the header's three octets. The buffer has 56 octets, so nothing of what it held is left.
 use mathlib.Core.Path.{◌≡◌}
 use mathlib.Core.List.{List}
-use Prim.Native.Nat.{ℕ, ◌-◌, ◌≤◌}
+use Prim.Native.Nat.{ℕ, ◌≤◌}
 use lib.ListN.{length}
 use lib.Seq.{paste}
 use Rattle.pagecode.proofs.page.write_page.Given as goal
@@ -13,6 +13,3 @@ pub record Inv (d s v : List ℕ) (j : ℕ) : Type 0 where
 
 abbrev pub invariant-loop-j : goal.invariant-loop-j
 invariant-loop-j l = Inv l.initial.out l.content l.out l.j
-
-abbrev pub decreases-loop-j : goal.decreases-loop-j
-decreases-loop-j l = 53 - l.j

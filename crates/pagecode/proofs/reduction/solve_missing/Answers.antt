@@ -1,154 +1,105 @@
 -- The equations of the parity pages are reduced to the missing pages; what solves them completes the message.
 -- There are as many parity pages as pages are missing, so the square that is solved is whole.
 use mathlib.Core.List.{List}
-use mathlib.Core.Path.{◌≡◌, refl, sym, ap, ◌∙◌, subst}
-use Prim.Native.Nat.{ℕ, ◌+◌, ◌-◌, ◌*◌, ◌≤◌}
+use mathlib.Core.Path.{◌≡◌, sym, ap, ◌∙◌, subst}
+use Prim.Native.Nat.{ℕ, ◌*◌}
 use native.Mathlib.Omega.{arith}
-use lib.ListN.{length}
-use Rattle.pagecode.specs.Reduction.{Spread, Numbered}
-use Rattle.pagecode.proofs.LegalNumbers.{pages-of}
-use Rattle.pagecode.proofs.Noughts.{noughts-le, list-numbered, list-spread, others-numbered}
-use Rattle.pagecode.proofs.SolvedPages.{plain-spread, as_many, regular, completed, none-missing}
+use lib.ListN.{length, take}
+use Rattle.std.proofs.lemmas.List.{length-take-le}
+use Rattle.pagecode.specs.Reduction.{Spread, Numbered, Marked, AreNoughts, AreOthers}
+use Rattle.pagecode.proofs.LegalNumbers.{Pages, pages-of}
+use Rattle.pagecode.proofs.Noughts.{marked-front}
+use Rattle.pagecode.proofs.SolvedPages.{plain-spread, none-missing}
+use Rattle.pagecode.proofs.Sought.{Sought, Facts, noughts-at, others-at, facts-of, regular-of, completed-of}
+use borrow.Author.Tests.{eqb-true}
+use Rattle.pagecode.proofs.reduction.solve_missing.Goals.{Else-is_empty, After-others-known}
 use Rattle.pagecode.proofs.reduction.solve_missing.Goals as goal
 
-pub returns-then-r-eq0 : goal.returns-then-r-eq0
-returns-then-r-eq0 c =
-    let numbers : List ℕ = c.args.numbers.now in
-    let k : ℕ = length numbers in
-    let plain : List ℕ = c.args.plain in
-    let few : k ≤ 32 = c.requires.0 in
-    let pages = pages-of numbers few c.requires.3 c.requires.4 in
-    let parity = c.list_places-pages in
-    let r : ℕ = parity.result.count in
-    none-missing numbers plain few pages c.requires.5 c.args.contents.now c.args.out.now parity.result.noughts r parity.ensures.0 c.if-r-eq0.true
+-- the numbers are those of pages
+pages : (c : Else-is_empty) → Pages (length c.args.numbers.now) c.args.numbers.now
+pages c = pages-of c.args.numbers.now c.requires.0 c.requires.2 c.requires.3
+
+-- no plain page stands twice
+spread : (c : Else-is_empty) → Spread (length c.args.plain.now) (length c.args.plain.now) c.args.plain.now
+spread c =
+    let a = c.args in
+    let k : ℕ = length a.numbers.now in
+    subst (λ (n : ℕ). Spread n n a.plain.now) (sym c.requires.4) (plain-spread a.numbers.now a.plain.now c.requires.0 (pages c) c.requires.5 k (omega arith))
+
+-- the lists are those that are sought
+sought : (c : After-others-known) → Sought (length c.args.numbers.now) c.args.plain.now (take (length c.args.plain.now) c.mark_columns-marks.result) c.noughts-parity.result.now c.noughts-missing.result.now c.others-known.result.now
+sought c =
+    let plain : List ℕ = c.args.plain.now in
+    let marks : List ℕ = take (length plain) c.mark_columns-marks.result in
+    let received = c.list_places-pages in
+    let columns = c.list_places-columns in
+    let parity = c.noughts-parity in
+    let missing = c.noughts-missing in
+    let known = c.others-known in
+    let same : length plain ≡ length c.args.numbers.now = c.requires.4 in
+    let whole : length marks ≡ length c.args.numbers.now = length-take-le (length plain) c.mark_columns-marks.result (omega arith) ∙ same in
+    record {
+      marked = subst (λ (n : ℕ). Marked n plain marks) same (marked-front (length plain) plain c.mark_columns-marks.result (spread (goal.at.parity_rows-rows-requires c).Else-is_empty) c.mark_columns-marks.ensures);
+      received = subst (λ (n : ℕ). AreNoughts plain n parity.result.now (length parity.result.now)) same (noughts-at plain received.result.noughts parity.result.now (length plain) received.result.count parity.ensures received.ensures.0);
+      gaps = subst (λ (n : ℕ). AreNoughts marks n missing.result.now (length missing.result.now)) whole (noughts-at marks columns.result.noughts missing.result.now (length marks) columns.result.count missing.ensures columns.ensures.0);
+      others = subst (λ (n : ℕ). AreOthers marks n known.result.now) whole (others-at marks columns.result.others known.result.now (length marks) columns.result.rest known.ensures (omega (arith, columns.ensures.0.all, columns.ensures.2)) columns.ensures.1);
+      rest = omega (arith, missing.ensures.1, known.ensures.1, columns.ensures.2, whole);
+    }
+
+-- what holds of the lists
+facts : (c : After-others-known) → Facts (length c.args.numbers.now) c.noughts-parity.result.now c.noughts-missing.result.now c.others-known.result.now
+facts c = facts-of c.args.numbers.now c.args.plain.now c.requires.0 (pages (goal.at.parity_rows-rows-requires c).Else-is_empty) c.requires.5 _ c.noughts-parity.result.now c.noughts-missing.result.now c.others-known.result.now (sought c)
+
+pub returns-then-is_empty : goal.returns-then-is_empty
+returns-then-is_empty c =
+    let a = c.args in
+    let received = c.list_places-pages in
+    let none : received.result.count ≡ 0 = omega (arith, eqb-true _ _ (sym c.is_empty.ensures ∙ c.if-is_empty.true), c.noughts-parity.ensures.1) in
+    none-missing a.numbers.now a.plain.now c.requires.0 (pages-of a.numbers.now c.requires.0 c.requires.2 c.requires.3) c.requires.5 a.contents.now a.out.now received.result.noughts received.result.count
+    (subst (λ (n : ℕ). AreNoughts a.plain.now n received.result.noughts received.result.count) c.requires.4 received.ensures.0) none
 
 pub mark_columns-marks-requires : goal.mark_columns-marks-requires
-mark_columns-marks-requires c =
-    let numbers : List ℕ = c.args.numbers.now in
-    let k : ℕ = length numbers in
-    let plain : List ℕ = c.args.plain in
-    let few : k ≤ 32 = c.requires.0 in
-    let pages = pages-of numbers few c.requires.3 c.requires.4 in
-    (few, plain-spread numbers plain few pages c.requires.5 k (omega arith))
+mark_columns-marks-requires c = (omega arith, spread c)
 
 pub parity_rows-rows-requires : goal.parity_rows-rows-requires
 parity_rows-rows-requires c =
-    let numbers : List ℕ = c.args.numbers.now in
-    let k : ℕ = length numbers in
-    let plain : List ℕ = c.args.plain in
-    let few : k ≤ 32 = c.requires.0 in
-    let parity = c.list_places-pages in
-    let r : ℕ = parity.result.count in
-    let upto : r ≤ k = omega (arith, parity.ensures.0.all, noughts-le plain k) in
-    (few, c.requires.3, omega arith, list-numbered plain parity.result.noughts k r parity.ensures.0)
+    let f = facts c in
+    (c.requires.0, c.requires.2, omega (arith, f.whole), f.numbered-parity)
 
 pub reduced_rows-square-requires : goal.reduced_rows-square-requires
 reduced_rows-square-requires c =
-    let numbers : List ℕ = c.args.numbers.now in
-    let k : ℕ = length numbers in
-    let plain : List ℕ = c.args.plain in
-    let few : k ≤ 32 = c.requires.0 in
-    let pages = pages-of numbers few c.requires.3 c.requires.4 in
-    let parity = c.list_places-pages in
-    let r : ℕ = parity.result.count in
-    let upto : r ≤ k = omega (arith, parity.ensures.0.all, noughts-le plain k) in
-    let marks = c.mark_columns-marks in
-    let columns = c.list_places-columns in
-    let many : r ≡ columns.result.count = as_many numbers plain few pages c.requires.5 marks.result parity.result.noughts columns.result.noughts r columns.result.count marks.ensures parity.ensures.0 columns.ensures.0 in
-    (omega arith, λ a h. let n = list-numbered marks.result columns.result.noughts k columns.result.count columns.ensures.0 a (omega arith) in (n.0, omega (arith, n.1)))
-
-pub overflow_sub-numbers : goal.overflow_sub-numbers
-overflow_sub-numbers c =
-    let numbers : List ℕ = c.args.numbers.now in
-    let k : ℕ = length numbers in
-    let plain : List ℕ = c.args.plain in
-    let few : k ≤ 32 = c.requires.0 in
-    let parity = c.list_places-pages in
-    let r : ℕ = parity.result.count in
-    let upto : r ≤ k = omega (arith, parity.ensures.0.all, noughts-le plain k) in
-    upto
+    let f = facts (goal.at.reduced_rows-square-requires c).After-others-known in
+    (omega (arith, f.many, f.whole), f.numbered-missing)
 
 pub reduce_sides-requires : goal.reduce_sides-requires
 reduce_sides-requires c =
-    let numbers : List ℕ = c.args.numbers.now in
-    let k : ℕ = length numbers in
-    let plain : List ℕ = c.args.plain in
-    let few : k ≤ 32 = c.requires.0 in
-    let pages = pages-of numbers few c.requires.3 c.requires.4 in
-    let parity = c.list_places-pages in
-    let r : ℕ = parity.result.count in
-    let upto : r ≤ k = omega (arith, parity.ensures.0.all, noughts-le plain k) in
-    let marks = c.mark_columns-marks in
-    let columns = c.list_places-columns in
-    let many : r ≡ columns.result.count = as_many numbers plain few pages c.requires.5 marks.result parity.result.noughts columns.result.noughts r columns.result.count marks.ensures parity.ensures.0 columns.ensures.0 in
-    let whole : r + (k - r) ≡ k = omega arith in (
-      omega arith,
-      c.requires.1 ∙ ap (λ (n : ℕ). n * 53) (sym whole),
-      c.requires.2,
-      refl,
-      subst (λ (n : ℕ). Numbered r n parity.result.noughts) (sym whole) (list-numbered plain parity.result.noughts k r parity.ensures.0),
-      subst (λ (n : ℕ). Numbered (k - n) 32 columns.result.others) (sym (many ∙ columns.ensures.0.all)) (others-numbered marks.result columns.result.others k 32 few columns.ensures.1),
+    let f = facts (goal.at.reduce_sides-requires c).After-others-known in (
+      omega (arith, f.whole),
+      c.requires.1 ∙ ap (λ (n : ℕ). n * 53) (sym f.whole),
+      subst (λ (n : ℕ). Numbered (length c.noughts-parity.result.now) n c.noughts-parity.result.now) (sym f.whole) f.numbered-parity,
+      f.numbered-known,
     )
 
 pub solve_square-requires : goal.solve_square-requires
 solve_square-requires c =
-    let numbers : List ℕ = c.args.numbers.now in
-    let k : ℕ = length numbers in
-    let plain : List ℕ = c.args.plain in
-    let few : k ≤ 32 = c.requires.0 in
-    let pages = pages-of numbers few c.requires.3 c.requires.4 in
-    let parity = c.list_places-pages in
-    let r : ℕ = parity.result.count in
-    let upto : r ≤ k = omega (arith, parity.ensures.0.all, noughts-le plain k) in
-    let marks = c.mark_columns-marks in
-    let columns = c.list_places-columns in
-    let many : r ≡ columns.result.count = as_many numbers plain few pages c.requires.5 marks.result parity.result.noughts columns.result.noughts r columns.result.count marks.ensures parity.ensures.0 columns.ensures.0 in
-    let rows = c.parity_rows-rows in
-    let square = c.reduced_rows-square in (
-      omega arith,
-      c.reduce_sides.auto.sides,
-      regular numbers plain few pages c.requires.5 marks.result parity.result.noughts columns.result.noughts r columns.result.count rows.result square.result
-          marks.ensures parity.ensures.0 columns.ensures.0 rows.ensures square.ensures,
+    let a = c.args in
+    let d = (goal.at.solve_square-requires c).After-others-known in
+    let f = facts d in (
+      omega (arith, f.whole),
+      regular-of a.numbers.now a.plain.now c.requires.0 (pages (goal.at.solve_square-requires c).Else-is_empty) c.requires.5 _ c.noughts-parity.result.now c.noughts-missing.result.now c.others-known.result.now (sought d)
+          c.parity_rows-rows.result c.reduced_rows-square.result c.parity_rows-rows.ensures c.reduced_rows-square.ensures,
     )
 
 pub lay_pages-requires : goal.lay_pages-requires
 lay_pages-requires c =
-    let numbers : List ℕ = c.args.numbers.now in
-    let k : ℕ = length numbers in
-    let plain : List ℕ = c.args.plain in
-    let few : k ≤ 32 = c.requires.0 in
-    let pages = pages-of numbers few c.requires.3 c.requires.4 in
-    let parity = c.list_places-pages in
-    let r : ℕ = parity.result.count in
-    let upto : r ≤ k = omega (arith, parity.ensures.0.all, noughts-le plain k) in
-    let marks = c.mark_columns-marks in
-    let columns = c.list_places-columns in
-    let many : r ≡ columns.result.count = as_many numbers plain few pages c.requires.5 marks.result parity.result.noughts columns.result.noughts r columns.result.count marks.ensures parity.ensures.0 columns.ensures.0 in
-    let long : length c.solve_square.new.sides ≡ 1696 = c.solve_square.auto.sides ∙ c.reduce_sides.auto.sides in (
-      omega arith,
-      omega arith,
-      c.requires.2,
-      subst (λ (n : ℕ). Spread n 32 columns.result.noughts) (sym many) (list-spread marks.result columns.result.noughts k columns.result.count columns.ensures.0 32 few),
-    )
+    let f = facts (goal.at.lay_pages-requires c).After-others-known in
+    let long : length c.solve_square.new.sides ≡ 1696 = c.solve_square.array_long in
+    (omega (arith, f.many, f.whole), omega (arith, f.many, f.whole), f.spread)
 
 pub returns : goal.returns
 returns c =
-    let numbers : List ℕ = c.args.numbers.now in
-    let k : ℕ = length numbers in
-    let plain : List ℕ = c.args.plain in
-    let few : k ≤ 32 = c.requires.0 in
-    let pages = pages-of numbers few c.requires.3 c.requires.4 in
-    let parity = c.list_places-pages in
-    let r : ℕ = parity.result.count in
-    let upto : r ≤ k = omega (arith, parity.ensures.0.all, noughts-le plain k) in
-    let marks = c.mark_columns-marks in
-    let columns = c.list_places-columns in
-    let many : r ≡ columns.result.count = as_many numbers plain few pages c.requires.5 marks.result parity.result.noughts columns.result.noughts r columns.result.count marks.ensures parity.ensures.0 columns.ensures.0 in
-    let rows = c.parity_rows-rows in
-    let square = c.reduced_rows-square in
-    let sides = c.reduce_sides in
-    let solved = c.solve_square in
-    let laid = c.lay_pages in
-    completed numbers plain few pages c.requires.5 marks.result parity.result.noughts columns.result.noughts r columns.result.count rows.result square.result
-    marks.ensures parity.ensures.0 columns.ensures.0 rows.ensures square.ensures columns.result.others c.args.contents.now c.args.out.now sides.new.sides solved.new.sides laid.new.out
-    columns.ensures.1 sides.ensures solved.ensures.0 laid.ensures
+    let a = c.args in
+    let d = (goal.at.returns c).After-others-known in
+    completed-of a.numbers.now a.plain.now c.requires.0 (pages (goal.at.returns c).Else-is_empty) c.requires.5 _ c.noughts-parity.result.now c.noughts-missing.result.now c.others-known.result.now (sought d)
+    c.parity_rows-rows.result c.reduced_rows-square.result c.parity_rows-rows.ensures c.reduced_rows-square.ensures
+    a.contents.now a.out.now c.reduce_sides.new.sides c.solve_square.new.sides c.lay_pages.new.out c.reduce_sides.ensures c.solve_square.ensures.0 c.lay_pages.ensures

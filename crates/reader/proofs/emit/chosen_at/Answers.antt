@@ -1,20 +1,12 @@
--- No part is of place 0, and then none are chosen; else the bit tells.
-use mathlib.Core.Bool.{true, false}
-use mathlib.Core.Path.{sym, ◌∙◌}
-use borrow.Author.Rules.{rules}
+-- Where there is no part none are chosen; else the bit tells.
 use Rattle.bits.specs.Bits.{bits_of}
 use Rattle.reader.proofs.Masked.{chosen_none, chosen-next}
 use Rattle.reader.proofs.emit.chosen_at.Goals as goal
 
-pub returns-then-part-eq0 : goal.returns-then-part-eq0
-returns-then-part-eq0 c = λ s satellites st o h. chosen_none _ _ satellites s (rw c.if-part-eq0.true at st) o h
+pub returns-in_default : goal.returns-in_default
+returns-in_default c s satellites st o h = chosen_none _ _ satellites s (rw c.in_default.is at st) o h
 
-pub returns-then-bit_at : goal.returns-then-bit_at
-returns-then-bit_at c =
+pub returns : goal.returns
+returns c s satellites st o h =
     let a = c.args in
-    λ s satellites st o h. chosen-next (bits_of a.octets.now) a.part a.n satellites s true (search rules) (sym c.if-bit_at.true ∙ c.bit_at.ensures) st o h
-
-pub returns-else-bit_at : goal.returns-else-bit_at
-returns-else-bit_at c =
-    let a = c.args in
-    λ s satellites st o h. chosen-next (bits_of a.octets.now) a.part a.n satellites s false (search rules) (sym c.if-bit_at.false ∙ c.bit_at.ensures) st o h
+    rw (c.from.ensures) (chosen-next (bits_of a.octets.now) a.part c.in-Some.at a.n satellites s c.bit_at.result c.in-Some.is c.bit_at.ensures st o h)

@@ -1,5 +1,6 @@
 -- Each place as the callees give it; a satellite's orbit has at most 47 bits.
 use native.Mathlib.Omega.{arith}
+use Rattle.reader.proofs.RowValues.{within-more}
 use Rattle.reader.proofs.RowFields.{orbit-room}
 use Rattle.mt1.proofs.Blocks.{iod-le}
 use Rattle.reader.proofs.emit.second_rows.Goals as goal
@@ -20,7 +21,7 @@ overflow_add-first c =
 pub onward-requires : goal.onward-requires
 onward-requires c =
     let one = c.args.plan.mask.first in
-    (omega (arith, c.requires.orbit), omega (arith, orbit-room one.satellites c.iod_bits-2.result c.requires.satellites (omega (arith, c.iod_bits-2.ensures, iod-le one.id))))
+    (within-more c.args.plan.orbit 163840 200000 c.requires.orbit (omega arith), omega (arith, orbit-room one.satellites c.iod_bits-2.result c.requires.satellites (omega (arith, c.iod_bits-2.ensures, iod-le one.id))))
 
 pub returns : goal.returns
 returns c =

@@ -1,24 +1,20 @@
--- After j turns the first j octets of the record are laid.
-use mathlib.Core.Path.{refl, ◌∙◌}
-use lib.ListN.{length-set}
+-- A part of the buffer that is written whole is what was laid there.
+use Prim.Native.Nat.{ℕ, ◌+◌, ◌-◌}
+use native.Mathlib.Omega.{arith}
+use mathlib.Core.Path.{◌≡◌, ap, ◌∙◌}
+use lib.ListN.{length, take, drop}
+use mathlib.Core.List.{◌++◌}
 use borrow.Author.Rules.{rules}
-use Rattle.lists.proofs.Laid.{laid_none, laid_next, laid-all}
+use Rattle.std.proofs.lemmas.Slice.{put_mid-paste}
+use Rattle.std.proofs.lemmas.List.Edits.{paste_all}
+use Rattle.lists.specs.Lists.{laid}
 use Rattle.reader.proofs.emit.store.Goals as goal
 
-pub loop-j-init : goal.loop-j-init
-loop-j-init c = (search rules, refl, laid_none c.args.out.now c.args.at c.args.r)
-
-pub loop-j-preserved : goal.loop-j-preserved
-loop-j-preserved c =
-    let a = c.args in
-    let l = c.loop-j in (
-      search rules,
-      length-set l.out _ _ ∙ l.invariant.1,
-      laid_next 0 a.out.now a.at a.r l.out l.j _ _ refl refl (search rules) (search rules) l.invariant.2,
-    )
-
 pub returns : goal.returns
+unfolding laid
 returns c =
     let a = c.args in
-    let l = c.loop-j in
-    l.invariant.2 ∙ laid-all a.out.now a.at a.r l.j (search rules)
+    let whole : 16 ≡ length a.r = search rules in
+    put_mid-paste a.at (a.at + 16 - a.at) a.out.now c.copy_from_slice.new.self a.r 16 c.copy_from_slice.ensures.after (omega arith) whole
+    ∙ paste_all a.out.now a.at a.r 16 whole
+    ∙ ap (λ (n : ℕ). take a.at a.out.now ++ (a.r ++ drop (a.at + n) a.out.now)) whole

@@ -1,19 +1,18 @@
 -- Bits that are there are the number; else the field is SHORT.
 use mathlib.Core.Path.{sym, ap, ◌∙◌}
+use Rattle.std.specs.Prelude.{Ok}
 use Rattle.bits.specs.Bits.{bits_of}
 use Rattle.reader.specs.Steps.{field_answer}
-use Rattle.reader.specs.declared.field.Field.TheVariants.{Got, Refused}
-use Rattle.reader.proofs.Fields.{field-there, field-short}
+use Rattle.reader.proofs.Fields.{handed, enough, field-there, field-lacking}
 use Rattle.reader.proofs.field.read_field.Goals as goal
 
-pub returns-then-fits : goal.returns-then-fits
-returns-then-fits c =
+pub returns-in_err-need : goal.returns-in_err-need
+returns-in_err-need c =
     let a = c.args in
-    ap Got c.number_at.ensures
-    ∙ sym (ap field_answer (field-there a.n (bits_of a.octets.now) a.at (sym c.fits.ensures ∙ c.if-fits.true) c.requires))
+    handed _ c.from_residual.ensures.1 ∙ sym (ap field_answer (field-lacking a.n (bits_of a.octets.now) a.at c.in_err-need.ensures))
 
 pub returns : goal.returns
 returns c =
     let a = c.args in
-    ap Refused c.refuse.ensures
-    ∙ sym (ap field_answer (field-short a.n (bits_of a.octets.now) a.at (sym c.fits.ensures ∙ c.if-fits.false)))
+    let bs = bits_of a.octets.now in
+    ap Ok c.number_at.ensures ∙ sym (ap field_answer (field-there a.n bs a.at (enough a.n bs a.at c.in_ok-need.ensures) c.requires))

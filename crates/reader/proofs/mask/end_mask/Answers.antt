@@ -1,18 +1,20 @@
 -- The reserved bits are there, whatever they are, or SHORT.
-use mathlib.Core.Path.{sym, ap}
+use mathlib.Core.Path.{sym, ap, ◌∙◌}
 use Rattle.bits.specs.Bits.{bits_of}
 use Rattle.mt1.specs.Parse.{field}
 use Rattle.reader.specs.Steps.{mask_end}
-use Rattle.reader.proofs.Fields.{field-ends, field-got, field-bad}
+use Rattle.reader.proofs.Fields.{handed, step-bad}
+use Rattle.reader.proofs.Skipping.{step_field, step-got}
 use Rattle.reader.proofs.mask.end_mask.Goals as goal
 
-pub returns-in_default : goal.returns-in_default
-returns-in_default c =
+pub returns-in_err-end : goal.returns-in_err-end
+returns-in_err-end c =
     let a = c.args in
-    sym (ap (mask_end a.plan) (field-bad (field 6 (bits_of a.octets.now) a.at) c.read_field-f.ensures c.in_default.is c.field_refusal.ensures))
+    let bs = bits_of a.octets.now in
+    handed _ c.from_residual.ensures.1 ∙ sym (ap (mask_end a.plan) (step-bad (field 6 bs a.at) (c.in_err-end.ensures ∙ sym (step_field bs 6 a.at))))
 
 pub returns : goal.returns
 returns c =
     let a = c.args in
     let bs = bits_of a.octets.now in
-    sym (ap (mask_end a.plan) (field-got (field 6 bs a.at) (field-ends 6 bs a.at) c.read_field-f.ensures c.in-Got.is))
+    step-got (field 6 bs a.at) (step_field bs 6 a.at ∙ sym c.in_ok-end.ensures) λ v e. sym (ap (mask_end a.plan) e)

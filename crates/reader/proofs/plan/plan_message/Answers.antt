@@ -5,15 +5,16 @@ use mathlib.Core.List.{[]}
 use mathlib.Core.Option.{none, some}
 use mathlib.Core.Path.{◌≡◌, sym, ap, ◌∙◌}
 use lib.ListN.{length}
+use Rattle.reader.proofs.Fields.{handed}
 use Rattle.bits.specs.Bits.{bits_of}
 use Rattle.bits.proofs.Octets.{length-bits_of}
 use Rattle.mt1.specs.Parse.{got, bad}
-use Rattle.mt1.specs.Message.{Header, Mask}
+use Rattle.mt1.specs.Message.{Header}
 use Rattle.mt1.specs.Mt1.{header, mask}
-use Rattle.reader.proofs.Headers.{header-bad, header-got, header_at, Found, found, mask-refused}
+use Rattle.reader.proofs.Headers.{header-bad, header-got, header_at, found, mask-refused}
 use Rattle.reader.proofs.Messages.{message-bad, own-bad, own_read, none_made, none_read, lent-message}
 use Rattle.reader.proofs.plan.plan_message.Goals as goal
-use Rattle.reader.proofs.plan.plan_message.Goals.{Else-number_at-gt3599, In-Got, Start}
+use Rattle.reader.proofs.plan.plan_message.Goals.{Else-number_at-gt3599, Start}
 
 long : (s : Start) → 32 ≤ length (bits_of s.args.octets.now)
 long s =
@@ -24,31 +25,34 @@ header_read c =
     let long' : 32 ≤ length (bits_of c.args.octets.now) = omega (arith, c.requires.1, length-bits_of c.args.octets.now) in
     header-got (bits_of c.args.octets.now) long' (omega (arith, c.if-number_at-gt3599.false, c.number_at.ensures))
 
-own-mask : (c : In-Got) → (m : Mask) × Found (bits_of c.args.octets.now) 32 m c.in-Got.plan c.in-Got.at
-own-mask c =
-    let long' : 32 ≤ length (bits_of c.args.octets.now) = omega (arith, c.requires.1, length-bits_of c.args.octets.now) in
-    found (bits_of c.args.octets.now) 32 (omega arith) long' c.read_mask-m.ensures c.in-Got.is
-
 pub returns-then-number_at-gt3599 : goal.returns-then-number_at-gt3599
 returns-then-number_at-gt3599 c =
     message-bad (record { id = c.args.mask_id; octets = c.args.mask.now }) c.args.octets.now
     (header-bad (bits_of c.args.octets.now) (long (goal.at.returns-then-number_at-gt3599 c).Start) (omega (arith, c.if-number_at-gt3599.true, c.number_at.ensures)) ∙ ap bad (sym c.refuse.ensures))
 
-pub returns-in_default : goal.returns-in_default
-returns-in_default c =
-    let (h, e) = header_read (goal.at.returns-in_default c).Else-number_at-gt3599 in
-    own-bad (record { id = c.args.mask_id; octets = c.args.mask.now }) c.args.octets.now h e c.requires.0 (sym c.bit_at.ensures ∙ c.if-bit_at.true)
-    (mask-refused (mask (bits_of c.args.octets.now) 32) 32 c.read_mask-m.ensures c.in_default.is c.mask_refusal.ensures)
+pub returns-in_err-own : goal.returns-in_err-own
+returns-in_err-own c =
+    let (h, e) = header_read (goal.at.returns-in_err-own c).Else-number_at-gt3599 in
+    rw (handed c.from_residual.result c.from_residual.ensures.1) (own-bad (record { id = c.args.mask_id; octets = c.args.mask.now }) c.args.octets.now h e c.requires.0 (sym c.bit_at.ensures ∙ c.if-bit_at.true)
+    (mask-refused (mask (bits_of c.args.octets.now) 32) 32 c.in_err-own.ensures))
 
 pub plan_blocks-requires : goal.plan_blocks-requires
 plan_blocks-requires c =
-    let (m, w) = own-mask c in
-    (w.ahead, omega (arith, w.fits, length-bits_of c.args.octets.now), c.requires.0, (m.systems, w.stands.made.0, w.stands.made.1))
+    let long' : 32 ≤ length (bits_of c.args.octets.now) = omega (arith, c.requires.1, length-bits_of c.args.octets.now) in
+    let (m, w) = found (bits_of c.args.octets.now) 32 (omega arith) long' c.in_ok-own.ensures in
+    (w.ahead, omega (arith, w.fits, length-bits_of c.args.octets.now))
+
+pub invariant_of-blocks : goal.invariant_of-blocks
+invariant_of-blocks c =
+    let long' : 32 ≤ length (bits_of c.args.octets.now) = omega (arith, c.requires.1, length-bits_of c.args.octets.now) in
+    let (m, w) = found (bits_of c.args.octets.now) 32 (omega arith) long' c.in_ok-own.ensures in
+    record { short = c.requires.0; made = ∣ (m.systems, w.stands.made.0, w.stands.made.1) ∣₁ }
 
 pub returns-then-bit_at : goal.returns-then-bit_at
 returns-then-bit_at c =
     let (h, e) = header_read (goal.at.returns-then-bit_at c).Else-number_at-gt3599 in
-    let (m, w) = own-mask (goal.at.returns-then-bit_at c).In-Got in
+    let long' : 32 ≤ length (bits_of c.args.octets.now) = omega (arith, c.requires.1, length-bits_of c.args.octets.now) in
+    let (m, w) = found (bits_of c.args.octets.now) 32 (omega arith) long' c.in_ok-own.ensures in
     own_read (record { id = c.args.mask_id; octets = c.args.mask.now }) c.args.octets.now h e c.requires.0 m c.plan_blocks.result (sym c.bit_at.ensures ∙ c.if-bit_at.true) w
     (c.plan_blocks.ensures h (some m) m.systems w.stands.made.0 (header_at (bits_of c.args.octets.now) h e).flags w.stands.made.1)
 
@@ -60,8 +64,10 @@ returns-then-needs_mask c =
 
 pub plan_blocks-requires-2 : goal.plan_blocks-requires-2
 plan_blocks-requires-2 c =
-    let q = c.requires in
-    (omega arith, omega (arith, q.1), q.0, ([], 0, none_made (c.no_mask.ensures 0)))
+    (omega arith, omega (arith, c.requires.1))
+
+pub invariant_of-blocks-2 : goal.invariant_of-blocks-2
+invariant_of-blocks-2 c = record { short = c.requires.0; made = ∣ ([], 0, none_made (c.no_mask.ensures 0)) ∣₁ }
 
 pub returns : goal.returns
 returns c =

@@ -1,6 +1,8 @@
 -- The header stands first, its fields one behind another, and each block begins with its interval.
 use native.Mathlib.Omega.{arith}
-use mathlib.Core.Path.{◌∙◌}
+use mathlib.Core.Path.{ap, ◌∙◌}
+use borrow.Author.Rules.{rules}
+use Rattle.mt1.specs.Records.{two}
 use Rattle.bits.specs.Bits.{bits_of}
 use Rattle.mt1.specs.Message.{has_orbit, has_clock, has_subset, has_code, has_phase}
 use Rattle.mt1.specs.Encode.{orbits_bits, clocks_bits, subsets_bits, codes_bits, phases_bits}
@@ -25,9 +27,8 @@ overflow_cast-iod_set c =
     let a = c.args in
     record { fits = read-lt (bits_of a.octets.now) 27 5 8 c.number_at-iod_set.ensures (omega arith) }
 
-pub high-requires : goal.high-requires
-high-requires c =
-    read-lt (bits_of c.args.octets.now) 0 12 16 c.number_at-time.ensures (omega arith)
+pub pair-requires : goal.pair-requires
+pair-requires c = read-lt (bits_of c.args.octets.now) 0 12 16 c.number_at.ensures (omega arith)
 
 pub returns : goal.returns
 returns c lent source m ss k =
@@ -35,7 +36,7 @@ returns c lent source m ss k =
     let bs = bits_of a.octets.now in
     let h = header_read bs m.header k.ok.header k.header in
     header-octets m (c.number_at-flags.ensures ∙ h.flags) (c.number_at-mask_id.ensures ∙ h.mask_id) (c.number_at-iod_set.ensures ∙ h.iod_set)
-    (c.number_at-time.ensures ∙ h.time) c.high.ensures c.low.ensures
+    (search rules) (c.pair.ensures ∙ ap two (c.number_at.ensures ∙ h.time))
     (interval-octet bs (orbits_bits ss) (OrbitsOk ss) (has_orbit m.header) a.plan.orbit m.orbits k.ok.orbits k.blocks.orbit c.octet_at-orbit.ensures)
     (interval-octet bs clocks_bits (ClocksOk ss) (has_clock m.header) a.plan.clock m.clocks k.ok.clocks k.blocks.clock c.octet_at-clock.ensures)
     (interval-octet bs subsets_bits (SubsetsOk ss) (has_subset m.header) a.plan.subset m.subset k.ok.subset k.blocks.subset c.octet_at-subset.ensures)

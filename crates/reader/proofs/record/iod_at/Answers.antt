@@ -1,4 +1,4 @@
--- Nothing stands at place 0; what stands elsewhere is the number that is read there.
+-- Where there is no place nothing stands; what stands is the number that is read there.
 use native.Mathlib.Omega.{arith}
 use mathlib.Core.Path.{sym, ap, ◌∙◌}
 use borrow.Author.Rules.{rules}
@@ -7,15 +7,17 @@ use Rattle.mt1.specs.Records.{two, iod_or}
 use Rattle.reader.proofs.RowValues.{absent, present, read-lt}
 use Rattle.reader.proofs.record.iod_at.Goals as goal
 
-pub returns-then-place-eq0 : goal.returns-then-place-eq0
-returns-then-place-eq0 c =
+pub returns-in_default : goal.returns-in_default
+returns-in_default c v s b =
     let a = c.args in
-    (search rules, λ v s b. sym (ap iod_or (absent (bits_of a.octets.now) (bits a.n) a.place v (search rules) s)))
+    sym (ap iod_or (absent (bits_of a.octets.now) (bits a.n) a.place v c.in_default.is s))
+
+pub pair-requires : goal.pair-requires
+pair-requires c =
+    let a = c.args in
+    read-lt (bits_of a.octets.now) c.in-Some.at a.n 16 c.number_at.ensures (search rules)
 
 pub returns : goal.returns
-returns c =
+returns c v s b =
     let a = c.args in
-    let bs = bits_of a.octets.now in (
-      read-lt bs a.place a.n 16 c.number_at.ensures (search rules),
-      λ v s b. ap two c.number_at.ensures ∙ sym (ap iod_or (present bs a.place a.n v (search rules) (omega arith) s b)),
-    )
+    c.pair.ensures ∙ ap two c.number_at.ensures ∙ sym (ap iod_or (present (bits_of a.octets.now) a.place a.n c.in-Some.at v c.in-Some.is (omega arith) s b))

@@ -5,4 +5,4 @@ use Rattle.writer.proofs.append.has_flag.Goals as goal
 
 pub returns : goal.returns
 returns c =
-    c.bit_at.ensures ∙ flag_at c.args.records.now c.args.k c.requires.0 c.requires.1
+    c.bit_at.ensures ∙ flag_at c.args.records.now c.args.k c.requires

@@ -1,7 +1,17 @@
 -- The two parts that are lent are the records of the first and of the second system.
-use Rattle.writer.proofs.SecondSystem.{rendered-cut}
+use mathlib.Core.Path.{ap, ◌∙◌}
+use Prim.Native.Nat.{◌-◌}
+use lib.ListN.{take, drop}
+use Rattle.std.proofs.lemmas.List.{take_rest}
+use Rattle.writer.specs.Rendering.{rendered_of, rendered}
+use Rattle.writer.proofs.Appending.{appends-is}
 use Rattle.writer.proofs.render.render.Goals as goal
 
 pub returns : goal.returns
+unfolding rendered
 returns c =
-    rendered-cut c.args.records.now c.second_at-cut.result c.second_at-cut.ensures.0 c.render_systems.ensures
+    let l = c.args.records.now in
+    let cut = c.second_at-cut.result in
+    appends-is
+    (ap (rendered_of l (take (cut - 16) (drop 16 l))) (take_rest l cut) ∙ ap (λ i. rendered_of l (take (i - 16) (drop 16 l)) (drop i l)) c.second_at-cut.ensures.0)
+    c.render_message.ensures

@@ -1,15 +1,18 @@
--- One record alone is the header's; else the records behind the first system's own are passed over up to the next system's.
+-- The record that is found is the second system's own; if there is none, that system has no records.
 use native.Mathlib.Omega.{arith}
-use mathlib.Core.Path.{refl}
-use borrow.Author.Rules.{rules}
-use Rattle.writer.proofs.SecondSystem.{second_none, second_is}
+use mathlib.Core.Path.{sym, ◌∙◌}
+use Rattle.writer.proofs.SecondSystem.{second-none, second-some}
 use Rattle.writer.proofs.render.second_at.Goals as goal
 
-pub returns-then-n-eq16 : goal.returns-then-n-eq16
-returns-then-n-eq16 c =
-    (second_none c.args.records.now c.if-n-eq16.true, search rules, c.requires.0, refl)
+pub overflow_mul-result : goal.overflow_mul-result
+overflow_mul-result c =
+    record { fits = omega (arith, (second-some c.args.records.now c.in-Some.k c.requires.some (sym c.next_system.ensures ∙ c.in-Some.is)).2) }
 
-pub returns : goal.returns
-returns c =
-    let u = c.until_system.ensures in
-    (second_is c.args.records.now c.until_system.result c.if-n-eq16.false u.0, omega arith, omega (arith, u.1, c.requires.0, c.if-n-eq16.false, c.requires.1.whole), omega (arith, u.2))
+pub returns-in-Some : goal.returns-in-Some
+returns-in-Some c =
+    let (here, least, most) = second-some c.args.records.now c.in-Some.k c.requires.some (sym c.next_system.ensures ∙ c.in-Some.is) in
+    (here, omega (arith, least), most)
+
+pub returns-in-None : goal.returns-in-None
+returns-in-None c =
+    (second-none c.args.records.now c.requires.some c.requires.whole (sym c.next_system.ensures ∙ c.in-None.is), c.requires.some, omega arith)

@@ -1,82 +1,49 @@
 -- The list is rendered, read back and held against itself; what is answered follows from the laws of the body.
-use Prim.Native.Nat.{◌+◌, ◌*◌, ◌/◌, ◌≤◌}
+use Prim.Native.Nat.{ℕ, ◌≤◌}
 use native.Mathlib.Omega.{arith}
-use mathlib.Core.Path.{◌≡◌, refl, sym}
-use lib.ListN.{length, take}
+use mathlib.Core.Path.{◌≡◌, refl, ◌∙◌}
+use lib.ListN.{length, take, length-replicate}
 use lib.Seq.{length-take-le}
-use borrow.Author.Rules.{rules}
 use Rattle.lists.proofs.Tests.{clash}
-use Rattle.bits.specs.Bits.{bits_of}
-use Rattle.writer.specs.Writer.{ReadsTo}
-use Rattle.writer.proofs.Bodies.{copied, body-few, body_end, body-form, body-long, body-size}
-use Rattle.writer.proofs.Written.{header-long, size-refused}
+use Rattle.writer.proofs.Bodies.{few-long, body-form, body-long, body-size}
+use Rattle.writer.proofs.Written.{size-refused}
 use Rattle.writer.proofs.writing.write_body.Goals as goal
-use Rattle.writer.proofs.writing.write_body.Goals.{After-body-2-1, After-body-6-1}
+use Rattle.writer.proofs.writing.write_body.Goals.{After-div_ceil}
 
-room : (c : After-body-2-1) → length (c.render-end.new.out) ≡ 20480
-room c =
-    search rules
+room : (c : After-div_ceil) → length c.render.new.body.octets ≡ 20480
+room c = c.render.ensures.room ∙ length-replicate {A = ℕ} 20480 0
 
-few : (c : After-body-2-1) → c.render-end.result ≤ 163840
-few c =
-    body-few c.args.records.now _ (c.render-end.new.out) c.render-end.result c.render-end.ensures (room c)
+read-few : (c : After-div_ceil) → (4 ≤ c.div_ceil.result) × (c.div_ceil.result ≤ 20480)
+read-few c = few-long c.args.records.now refl c.render.ensures (room c) c.requires.0.few c.div_ceil.result c.div_ceil.ensures
 
-long : (c : After-body-2-1) → 32 ≤ c.render-end.result
-long c =
-    omega (arith, body_end c.args.records.now _ (c.render-end.new.out) c.render-end.result c.render-end.ensures (room c), header-long c.args.records.now)
+read-length : (c : After-div_ceil) → length (take c.div_ceil.result c.render.new.body.octets) ≡ c.div_ceil.result
+read-length c = length-take-le c.div_ceil.result c.render.new.body.octets (omega (arith, (read-few c).1, room c))
 
-read_length : (c : After-body-2-1) → length (take ((c.render-end.result + 7) / 8) (c.render-end.new.out)) ≡ (c.render-end.result + 7) / 8
-read_length c =
-    length-take-le ((c.render-end.result + 7) / 8) (c.render-end.new.out) (omega (arith, few c, room c))
-
-within : (c : After-body-6-1) → c.render-end.result ≤ 13568
-within c =
-    omega (arith, c.if-end-gt-MESSAGE_BITS.false)
-
-read_back : (c : After-body-6-1) → ReadsTo (record { id = c.args.mask_id; octets = c.args.mask.now }) (bits_of (take ((c.render-end.result + 7) / 8) (c.render-end.new.out))) c.args.records.now
-read_back c =
-    c.reads_back.ensures.0 c.if-not-reads_back.false
-
-written-length : (c : After-body-6-1) → length (take (53 * ((c.render-end.result + 423) / 424)) c.fill.new.out) ≡ 53 * ((c.render-end.result + 423) / 424)
-written-length c =
-    let room' : length (c.render-end.new.out) ≡ 20480 = search rules in
-    length-take-le _ c.fill.new.out (omega (arith, within c, c.fill.ensures.room, room'))
-
-pub overflow_add-body : goal.overflow_add-body
-overflow_add-body c = omega (arith, few c)
-
-pub slice_bounds-body-end : goal.slice_bounds-body-end
-slice_bounds-body-end c = omega (arith, few c, room c)
-
-pub slice_bounds-reads_back-end : goal.slice_bounds-reads_back-end
-slice_bounds-reads_back-end c = sym (read_length (goal.at.slice_bounds-reads_back-end c).After-body-2-1)
+pub shared_ref_as_front-reads_back : goal.shared_ref_as_front-reads_back
+shared_ref_as_front-reads_back c = (read-few (goal.at.shared_ref_as_front-reads_back c).After-div_ceil).1
 
 pub reads_back-requires : goal.reads_back-requires
 reads_back-requires c =
-    (omega (arith, read_length (goal.at.reads_back-requires c).After-body-2-1, long (goal.at.reads_back-requires c).After-body-2-1), omega (arith, read_length (goal.at.reads_back-requires c).After-body-2-1, few (goal.at.reads_back-requires c).After-body-2-1), c.requires.1)
+    let d = (goal.at.reads_back-requires c).After-div_ceil in
+    (omega (arith, read-length d, (read-few d).0), omega (arith, read-length d, (read-few d).1), c.requires.0)
 
 pub returns-then-not-reads_back : goal.returns-then-not-reads_back
 returns-then-not-reads_back c = (
-  body-form c.args.records.now _ (c.render-end.new.out) c.render-end.result c.render-end.ensures (room (goal.at.returns-then-not-reads_back c).After-body-2-1) (record { id = c.args.mask_id; octets = c.args.mask.now }) c.args.out.now c.args.out.now
+  body-form c.args.records.now refl c.render.ensures (room (goal.at.returns-then-not-reads_back c).After-div_ceil) c.requires.0.few c.div_ceil.result c.div_ceil.ensures (record { id = c.args.mask_id; octets = c.args.mask.now }) c.args.out.now c.args.out.now
       (λ t. clash (c.reads_back.ensures.1 t) c.if-not-reads_back.true),
   λ w e. refl,
 )
 
 pub returns-then-end-gt-MESSAGE_BITS : goal.returns-then-end-gt-MESSAGE_BITS
 returns-then-end-gt-MESSAGE_BITS c = (
-  body-long c.args.records.now _ (c.render-end.new.out) c.render-end.result c.render-end.ensures (room (goal.at.returns-then-end-gt-MESSAGE_BITS c).After-body-2-1) (record { id = c.args.mask_id; octets = c.args.mask.now }) c.args.out.now c.args.out.now
+  body-long c.args.records.now refl c.render.ensures (room (goal.at.returns-then-end-gt-MESSAGE_BITS c).After-div_ceil) c.requires.0.few c.div_ceil.result c.div_ceil.ensures (record { id = c.args.mask_id; octets = c.args.mask.now }) c.args.out.now c.args.out.now
       (c.reads_back.ensures.0 c.if-not-reads_back.false) c.if-end-gt-MESSAGE_BITS.true,
   λ w e. refl,
 )
 
-pub copy_front-requires : goal.copy_front-requires
-copy_front-requires c =
-    let d = (goal.at.copy_front-requires c).After-body-6-1 in
-    omega (arith, written-length d, within d, c.requires.2)
-
 pub returns : goal.returns
 returns c = (
-  body-size c.args.records.now _ (c.render-end.new.out) c.render-end.result c.render-end.ensures (room (goal.at.returns c).After-body-2-1) (record { id = c.args.mask_id; octets = c.args.mask.now }) c.args.out.now _
-      (read_back (goal.at.returns c).After-body-6-1) (within (goal.at.returns c).After-body-6-1) _ refl c.fill.new.out _ c.fill.ensures (λ i. (c.type_inv.out i).fits) (copied (take (53 * ((c.render-end.result + 423) / 424)) c.fill.new.out) c.args.out.now _ _ (written-length (goal.at.returns c).After-body-6-1) c.copy_front.ensures),
+  body-size c.args.records.now refl c.render.ensures (room (goal.at.returns c).After-div_ceil) c.requires.0.few c.div_ceil.result c.div_ceil.ensures (record { id = c.args.mask_id; octets = c.args.mask.now }) c.args.out.now c.copy_from_slice.new.self c.div_ceil-size.result c.fill.new.self
+      (c.reads_back.ensures.0 c.if-not-reads_back.false) (omega (arith, c.if-end-gt-MESSAGE_BITS.false)) c.div_ceil-size.ensures c.fill.ensures (c.fill.ensures.room ∙ room (goal.at.returns c).After-div_ceil) (λ i. (c.type_inv.out i).fits) c.copy_from_slice.ensures.after,
   λ w e. absurd (size-refused e),
 )

@@ -1,0 +1,19 @@
+-- Where its flag is 0 nothing is read; else the block is passed over by the plan's numbers.
+use mathlib.Core.Path.{sym, ◌∙◌}
+use Rattle.bits.specs.Bits.{bits_of}
+use Rattle.mt1.specs.Mt1.{block, clocks}
+use Rattle.reader.proofs.BlockRows.{clocks-rows}
+use Rattle.reader.proofs.Planning.{step-absent, step-there}
+use Rattle.reader.proofs.block.Blocks.skip_clocks.Goals as goal
+
+pub returns-then-not-bit_at : goal.returns-then-not-bit_at
+returns-then-not-bit_at c =
+    λ ss place k.
+    let a = c.args in
+    step-absent (block (clocks ss)) (bits_of a.self.now.octets.now) a.at (sym c.bit_at.ensures ∙ c.if-not-bit_at.true)
+
+pub returns : goal.returns
+returns c =
+    λ ss place k.
+    let a = c.args in
+    step-there (block (clocks ss)) (bits_of a.self.now.octets.now) a.at (sym c.bit_at.ensures ∙ c.if-not-bit_at.false) (c.skip_block.ensures ∙ clocks-rows (bits_of a.self.now.octets.now) k a.at)

@@ -1,7 +1,0 @@
--- The tests are those of the definition, in its order.
-use mathlib.Core.Path.{refl}
-use Rattle.writer.proofs.header.numbers_fit.Goals as goal
-
-pub returns : goal.returns
-returns c =
-    rw (c.both-3.ensures, c.both-2.ensures, c.both-ids.ensures, c.both.ensures, c.pair_at.ensures) refl
