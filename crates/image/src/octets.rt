@@ -21,7 +21,8 @@ pub fn put_word(out: &mut [u8], at: usize, n: u64)
     ensures { out.new ≡ laid out.old at (word n) }
 {
     let cut = (n % 4294967296) as u32;
-    put_octets(out, at, &cut.to_be_bytes());
+    let [highest, high, low, lowest] = cut.to_be_bytes();
+    put_octets(out, at, &[highest, high, low, lowest]);
 }
 
 // The number in front of octets.

@@ -3,7 +3,7 @@
 ghost use Rattle.std.specs.Prelude.{◌+◌, ◌*◌, ◌≤◌, true, ◌≡◌, length, Ok};
 ghost use Rattle.pagecode.specs.Field.{Octets};
 ghost use Rattle.pagecode.specs.Solve.{all_legal, different, SolvedBuffer};
-ghost use Rattle.pagecode.specs.Reduction.{ArePlain, Numbered, ParityRows, ReducedRow, ReducedRows, KnownAdded, ReducedSides, Completed};
+ghost use Rattle.pagecode.specs.Reduction.{ArePlain, AreNoughts, Numbered, ParityRows, ReducedRow, ReducedRows, KnownAdded, ReducedSides, Completed};
 
 use crate::elimination::solve_square;
 use crate::laying::{lay_page, lay_pages};
@@ -87,7 +87,28 @@ fn reduce_sides(
     }
 }
 
-// Solves for the missing pages of a message in which the plain pages stand, and lays them; nothing where none is missing.
+// Solves for the missing pages of a message in which the plain pages stand, and lays them; `parity` has the places of the parity pages among the numbers.
+// A function of its own: its squares are cleared where it is entered, and a message of which no page is missing does not pay for that.
+fn solve_gaps(contents: &[u8], numbers: &[u64], plain: &[u8], parity: &[u8], out: &mut Message)
+    requires { (length numbers.now ≤ 32) × (length contents.now ≡ length numbers.now * 53)
+        × (all_legal (length numbers.now) numbers.now ≡ true) × (different numbers.now ≡ true)
+        × (length plain.now ≡ length numbers.now) × ArePlain numbers.now plain.now
+        × AreNoughts plain.now (length plain.now) parity.now (length parity.now) }
+    ensures { Completed numbers.now plain.now contents.now out.old out.new }
+{
+    let marks = mark_columns(plain);
+    let columns = list_places(&marks[..plain.len()]);
+    let missing = columns.noughts();
+    let known = columns.others();
+    let rows = parity_rows(numbers, parity);
+    let square = reduced_rows(rows, missing);
+    let mut sides = [0u8; MESSAGE_OCTETS];
+    reduce_sides(contents, out, rows, parity, known, &mut sides);
+    solve_square(square, &mut sides, parity.len());
+    lay_pages(&sides, missing, out);
+}
+
+// The same, from the numbers of the plain pages alone; nothing where no page is missing.
 fn solve_missing(contents: &[u8], numbers: &[u64], plain: &[u8], out: &mut Message)
     requires { (length numbers.now ≤ 32) × (length contents.now ≡ length numbers.now * 53)
         × (all_legal (length numbers.now) numbers.now ≡ true) × (different numbers.now ≡ true)
@@ -99,16 +120,7 @@ fn solve_missing(contents: &[u8], numbers: &[u64], plain: &[u8], out: &mut Messa
     if parity.is_empty() {
         return;
     }
-    let marks = mark_columns(plain);
-    let columns = list_places(&marks[..plain.len()]);
-    let missing = columns.noughts();
-    let known = columns.others();
-    let rows = parity_rows(numbers, parity);
-    let square = reduced_rows(rows, missing);
-    let mut sides = [0u8; MESSAGE_OCTETS];
-    reduce_sides(contents, out, rows, parity, known, &mut sides);
-    solve_square(square, &mut sides, parity.len());
-    lay_pages(&sides, missing, out);
+    solve_gaps(contents, numbers, plain, parity, out);
 }
 
 // Solves k different legal pages for the message that has them. That the buffer holds octets the caller knows, who has it as a slice: an array

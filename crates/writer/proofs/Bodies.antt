@@ -26,6 +26,10 @@ front-octets [] y h i = omega arith
 front-octets (a ∷ x) y h zero = h 0
 front-octets (a ∷ x) y h (suc i) = front-octets x y (λ j. h (suc j)) i
 
+-- all of a list is copied
+pub copied : (x d after : List ℕ) (n : ℕ) → length x ≡ n → after ≡ x ++ drop (length x) d → after ≡ x ++ drop n d
+copied x d after n e q = q ∙ ap (λ (i : ℕ). x ++ drop i d) e
+
 laid-front : (d x y : List ℕ) (n : ℕ) → x ≡ y → length y ≡ n → laid d 0 x ≡ y ++ drop n d
 unfolding laid
 laid-front d x y n e h = rw e (ap (λ (i : ℕ). y ++ drop i d) (zero-add (length y) ∙ h))

@@ -8,7 +8,6 @@ use mathlib.Core.Path.{◌≡◌, refl, sym, ap, ◌∙◌}
 use lib.Dec.{eqb}
 use lib.ListN.{length, take}
 use lib.Pointwise.{pointwise}
-use borrow.Author.Tests.{eqb-true}
 use Rattle.std.proofs.lemmas.Bool.Decides.{Decides-eqb}
 use Rattle.std.proofs.lemmas.Slice.Eq.{slice_eq-Decides}
 use Rattle.std.specs.Prelude.{Result, Ok, Err}
@@ -73,9 +72,9 @@ Told lent bs l told = (told ≡ true → ReadsTo lent bs l) × (ReadsTo lent bs 
 pub told-refused : {lent : Lent} {bs : List Bool} {l after : List ℕ} {answer : Result ℕ RefusalAt} {r : RefusalAt} → Decides lent bs l answer after → answer ≡ Err r → Told lent bs l false
 told-refused d e = (λ f. absurd (false≢true f), λ t. absurd (d.refused e t))
 
-pub told-other : {lent : Lent} {bs : List Bool} {l after : List ℕ} {answer : Result ℕ RefusalAt} {n : ℕ} → Decides lent bs l answer after → answer ≡ Ok n → (n ≡ length l / 16 → ⊥)
-    → Told lent bs l (eqb n (length l / 16))
-told-other {l = l} {n = n} d e o = (λ f. absurd (o (eqb-true n (length l / 16) f)), λ t. absurd (d.other e o t))
+pub told-other : {lent : Lent} {bs : List Bool} {l after : List ℕ} {answer : Result ℕ RefusalAt} {n : ℕ} {told : Bool} → Decides lent bs l answer after → answer ≡ Ok n → (n ≡ length l / 16 → ⊥)
+    → told ≡ false → Told lent bs l told
+told-other d e o q = (λ f. absurd (false≢true (sym q ∙ f)), λ t. absurd (d.other e o t))
 
 pub told-same : {lent : Lent} {bs : List Bool} {l after : List ℕ} {answer : Result ℕ RefusalAt} {n : ℕ} {told : Bool} → Decides lent bs l answer after → answer ≡ Ok n → n ≡ length l / 16
     → told ≡ pointwise eqb (take (length l) after) l → Told lent bs l told

@@ -21,5 +21,6 @@ returns c =
     let divisor : 1 * 2 ^ a.n % 2 ^ 128 ≡ 2 ^ a.n = rw one-mul (mod-eq_of_lt (pow-lt few)) in
     let octets : first + count - first ≡ count = omega arith in
     let place : a.at ≡ 8 * first + before = omega arith in
-    ap₂ (λ (w d : ℕ). w / 2 ^ (8 * count - before - a.n) % d) (c.gather-whole.ensures ∙ ap (λ (k : ℕ). value (bits_of (take k (drop first s)))) octets) divisor
+    ap (λ (k : ℕ). c.gather-whole.result / 2 ^ k % (1 * 2 ^ a.n % 2 ^ 128)) (omega arith)
+    ∙ ap₂ (λ (w d : ℕ). w / 2 ^ (8 * count - before - a.n) % d) (c.gather-whole.ensures ∙ ap (λ (k : ℕ). value (bits_of (take k (drop first s)))) octets) divisor
     ∙ sym (ap (λ (k : ℕ). value (take a.n (drop k (bits_of s)))) place ∙ run-number s first before count a.n (omega (arith, c.requires.1)) (omega arith))

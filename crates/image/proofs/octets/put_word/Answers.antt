@@ -1,8 +1,9 @@
 -- The four octets of a number below 2^32 are those of the number that it was cut of.
-use mathlib.Core.List.{List}
+use mathlib.Core.List.{List, [], ◌∷◌}
 use mathlib.Core.Path.{◌≡◌, refl, ap, ◌∙◌}
 use Prim.Native.Nat.{ℕ, ◌/◌, ◌%◌}
 use native.Mathlib.Omega.{arith}
+use lib.ListN.{get_or}
 use Rattle.std.specs.Int.{w32, to_be_bytes}
 use Rattle.lists.specs.Lists.{laid}
 use Rattle.image.specs.Octets.{word}
@@ -16,7 +17,11 @@ cut n =
     let d : n % 4294967296 % 256 ≡ n % 256 = omega arith in
     rw (a, b, c, d) refl
 
+-- the four octets by their places
+named : (bytes : List ℕ) (n : ℕ) → bytes ≡ word n → get_or bytes 0 0 ∷ get_or bytes 1 0 ∷ get_or bytes 2 0 ∷ get_or bytes 3 0 ∷ [] ≡ word n
+named bytes n e = rw e refl
+
 pub returns : goal.returns
 returns c =
     let a = c.args in
-    c.put_octets.ensures ∙ ap (laid a.out.now a.at) (ap (λ (x : List ℕ). x) c.to_be_bytes.ensures ∙ cut a.n)
+    c.put_octets.ensures ∙ ap (laid a.out.now a.at) (named c.to_be_bytes.result a.n (c.to_be_bytes.ensures ∙ cut a.n))

@@ -4,6 +4,7 @@ use mathlib.Core.Path.{◌≡◌, sym, ap, ap₂, ◌∙◌}
 use Prim.Native.Nat.{ℕ, suc, ◌+◌, ◌-◌, ◌*◌, ◌/◌, ◌%◌, ◌^◌, ◌<◌}
 use native.Mathlib.Omega.{arith}
 use lib.Pow.{shr-shr}
+use borrow.Author.Rules.{rules}
 use Rattle.pagecode.specs.Field.{◌⊕◌, ◌⊗◌, double, shift_add}
 use Rattle.pagecode.proofs.Linear.{add_step, ⊕-assoc, ⊕-zero, zero-⊕}
 use Rattle.pagecode.proofs.field.product.Goals as goal
@@ -14,6 +15,12 @@ summand a turn i h =
     ap (λ (n : ℕ). shift_add n (a / 2 ^ i) turn) left
     ∙ add_step (8 - (i + 1)) (a / 2 ^ i) turn
     ∙ ap (λ (x : ℕ). a / 2 ^ i % 2 * turn ⊕ shift_add (8 - (i + 1)) x (double turn)) (shr-shr a i 1)
+
+-- a turn adds what bit i chooses, and the next doubling is twice the last one
+next : (a b total turn i x y : ℕ) → i < 8 → x ≡ a / 2 ^ i % 2 * turn → y ≡ double turn → total ⊕ shift_add (8 - i) (a / 2 ^ i) turn ≡ a ⊗ b
+    → (total ⊕ x) ⊕ shift_add (8 - (i + 1)) (a / 2 ^ (i + 1)) y ≡ a ⊗ b
+next a b total turn i x y h chosen twice e =
+    rw chosen (rw twice (⊕-assoc total _ _ ∙ ap (λ (s : ℕ). total ⊕ s) (sym (summand a turn i h)) ∙ e))
 
 pub loop-bit-init : goal.loop-bit-init
 unfolding ◌⊗◌
@@ -26,7 +33,7 @@ pub loop-bit-preserved : goal.loop-bit-preserved
 unfolding ◌⊕◌
 loop-bit-preserved c =
     let l = c.loop-bit in
-    rw c.doubled-turn.ensures (⊕-assoc l.total _ _ ∙ ap (λ (x : ℕ). l.total ⊕ x) (sym (summand c.args.a l.turn l.bit c.loop-bit-test.true)) ∙ l.invariant)
+    next c.args.a c.args.b l.total l.turn l.bit _ _ c.loop-bit-test.true (search rules) c.doubled-turn.ensures l.invariant
 
 pub returns : goal.returns
 unfolding shift_add

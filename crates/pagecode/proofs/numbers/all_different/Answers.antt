@@ -34,6 +34,11 @@ ended : (numbers : List ℕ) (i : ℕ) → length numbers ≤ i → different (d
 unfolding different
 ended numbers i h = ap different (drop_of_length-le numbers {i = i} h)
 
+-- what was looked through from a place that is the next one
+next : (numbers : List ℕ) (p : ℕ) (r : Bool) (j k : ℕ) → j ≡ k → r ≡ list_any (λ q. eqb q p) (take (length numbers - j) (drop j numbers))
+    → r ≡ list_any (λ q. eqb q p) (take (length numbers - k) (drop k numbers))
+next numbers p r j k e h = h ∙ ap (λ (n : ℕ). list_any (λ q. eqb q p) (take (length numbers - n) (drop n numbers))) e
+
 pub loop-i-init : goal.loop-i-init
 loop-i-init c = refl
 
@@ -41,13 +46,13 @@ pub returns-then-contains : goal.returns-then-contains
 returns-then-contains c =
     let l = c.loop-i in
     let numbers = c.args.numbers.now in
-    sym (passed numbers l.i _ c.loop-i-test.true (sym c.if-contains.true ∙ c.contains.ensures.value)) ∙ l.invariant
+    sym (passed numbers l.i _ c.loop-i-test.true (next numbers (get_or numbers l.i 0) _ _ (l.i + 1) (search rules) (sym c.if-contains.true ∙ c.contains.ensures.value))) ∙ l.invariant
 
 pub loop-i-preserved : goal.loop-i-preserved
 loop-i-preserved c =
     let l = c.loop-i in
     let numbers = c.args.numbers.now in
-    sym (passed numbers l.i _ c.loop-i-test.true (sym c.if-contains.false ∙ c.contains.ensures.value)) ∙ l.invariant
+    sym (passed numbers l.i _ c.loop-i-test.true (next numbers (get_or numbers l.i 0) _ _ (l.i + 1) (search rules) (sym c.if-contains.false ∙ c.contains.ensures.value))) ∙ l.invariant
 
 pub returns : goal.returns
 returns c =

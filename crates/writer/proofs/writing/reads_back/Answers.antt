@@ -1,6 +1,7 @@
 -- The reader is lent octets enough, not too many, and a buffer as long as it asks: what it answers and writes decides.
 use Prim.Native.Nat.{ℕ}
 use lib.ListN.{replicate, length-replicate}
+use borrow.Author.Rules.{rules}
 use Rattle.bits.specs.Bits.{bits_of}
 use Rattle.writer.proofs.ReadBack.{Decides, reading-decides, told-refused, told-same, told-other}
 use Rattle.writer.proofs.writing.reads_back.Goals as goal
@@ -22,4 +23,4 @@ pub returns-then-n-records : goal.returns-then-n-records
 returns-then-n-records c = told-same (decides (goal.at.returns-then-n-records c).After-read_octets) c.in-Ok.is c.if-n-records.true c.eq.ensures
 
 pub returns-else-n-records : goal.returns-else-n-records
-returns-else-n-records c = told-other (decides (goal.at.returns-else-n-records c).After-read_octets) c.in-Ok.is c.if-n-records.false
+returns-else-n-records c = told-other (decides (goal.at.returns-else-n-records c).After-read_octets) c.in-Ok.is c.if-n-records.false (search rules)

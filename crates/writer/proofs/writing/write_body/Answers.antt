@@ -44,6 +44,6 @@ returns-then-end-gt-MESSAGE_BITS c = (
 pub returns : goal.returns
 returns c = (
   body-size c.args.records.now refl c.render.ensures (room (goal.at.returns c).After-div_ceil) c.requires.0.few c.div_ceil.result c.div_ceil.ensures (record { id = c.args.mask_id; octets = c.args.mask.now }) c.args.out.now c.copy_from_slice.new.self c.div_ceil-size.result c.fill.new.self
-      (c.reads_back.ensures.0 c.if-not-reads_back.false) (omega (arith, c.if-end-gt-MESSAGE_BITS.false)) c.div_ceil-size.ensures c.fill.ensures (c.fill.ensures.room ∙ room (goal.at.returns c).After-div_ceil) (λ i. (c.type_inv.out i).fits) c.copy_from_slice.ensures.after,
+      (c.reads_back.ensures.0 c.if-not-reads_back.false) (omega (arith, c.if-end-gt-MESSAGE_BITS.false)) (omega (arith, c.div_ceil-size.ensures)) c.fill.ensures (c.fill.ensures.room ∙ room (goal.at.returns c).After-div_ceil) (λ i. (c.type_inv.out i).fits) c.copy_from_slice.ensures.after,
   λ w e. absurd (size-refused e),
 )
