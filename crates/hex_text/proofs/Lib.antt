@@ -1,1 +1,2 @@
 mod Spelling
+mod Writing

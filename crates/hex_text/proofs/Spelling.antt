@@ -17,7 +17,7 @@ unfolding hex_of
 hex-length [] = refl
 hex-length (x ∷ xs) = omega (arith, hex-length xs)
 
-hex-append : (l m : List ℕ) → hex_of (l ++ m) ≡ hex_of l ++ hex_of m
+pub hex-append : (l m : List ℕ) → hex_of (l ++ m) ≡ hex_of l ++ hex_of m
 unfolding hex_of
 hex-append [] m = refl
 hex-append (x ∷ xs) m = ap (λ (r : List ℕ). digit_of (x / 16) ∷ digit_of (x % 16) ∷ r) (hex-append xs m)

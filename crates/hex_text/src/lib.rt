@@ -1,13 +1,17 @@
 // Octets in capital hex (document 01, Checked by hand: how the programs print them).
 #![tactic(auto)]
 
-ghost use Rattle.std.specs.Prelude.{◌≡◌, ◌≤◌, length, take};
-ghost use Rattle.hex_text.specs.Hex.{digit_of, Spelt};
+ghost use Rattle.std.specs.Prelude.{◌≡◌, ◌≤◌, ◌/◌, min, max, length, take, OnOk};
+ghost use Rattle.std.specs.Io.KnownBytes.{Appends};
+ghost use Rattle.hex_text.specs.Hex.{digit_of, line_of, lines_of, Spelt};
 
 use std::io;
 
 // As many octets as the longest message has are printed by one write.
 const PART_OCTETS: usize = 1696;
+
+// So many octets at most have a small text: a page or a record does not pay for the clearing of a large one.
+const FEW_OCTETS: usize = 64;
 
 // The digit of a number below 16.
 #[tactic(auto, unfolding(crate::specs::Hex::digit_of))]
@@ -31,20 +35,49 @@ pub fn spell(octets: &[u8], text: &mut [u8]) -> usize
     2 * count
 }
 
-// Prints octets, and a line end behind them.
-pub fn print_line(rt: &impl Print, octets: &[u8]) -> io::Result<()> {
-    for part in octets.chunks(PART_OCTETS) {
-        let mut text = [0u8; 2 * PART_OCTETS];
-        let count = spell(part, &mut text);
-        rt.write_all(&text[..count])?;
+// Writes the digits of octets, as many at once as a text has room for, and a line end behind them.
+fn write_by<W: io::Write>(out: &mut W, octets: &[u8], text: &mut [u8]) -> io::Result<()>
+    requires { 2 ≤ length text.old }
+    ensures { OnOk result (Appends (W.contents out.old) (W.contents out.new) (line_of octets.now)) }
+{
+    for part in octets.chunks(text.len() / 2) {
+        let count = spell(part, text);
+        out.write_all(&text[..count])?;
     }
-    println!(rt)
+    out.write_all(b"\n")
 }
 
-// Prints the first n chunks of so many octets, a line each; octets at the end that fill no chunk have no line. A size of 0 counts as 1, so that nothing is required.
-pub fn print_lines(rt: &impl Print, octets: &[u8], size: usize, n: u64) -> io::Result<()> {
-    for chunk in octets.chunks_exact(size.max(1)).take(n as usize) {
-        print_line(rt, chunk)?;
+// Writes the digits of octets, and a line end behind them.
+pub fn write_line<W: io::Write>(out: &mut W, octets: &[u8]) -> io::Result<()>
+    ensures { OnOk result (Appends (W.contents out.old) (W.contents out.new) (line_of octets.now)) }
+{
+    if octets.len() <= FEW_OCTETS {
+        let mut text = [0u8; 2 * FEW_OCTETS];
+        write_by(out, octets, &mut text)
+    } else {
+        let mut text = [0u8; 2 * PART_OCTETS];
+        write_by(out, octets, &mut text)
+    }
+}
+
+// Writes the first n chunks of so many octets, a line each; octets at the end that fill no chunk have no line. A size of 0 counts as 1, so that nothing is required.
+pub fn write_lines<W: io::Write>(out: &mut W, octets: &[u8], size: usize, n: u64) -> io::Result<()>
+    ensures { OnOk result (Appends (W.contents out.old) (W.contents out.new) (lines_of (min n (length octets.now / max size 1)) (max size 1) octets.now)) }
+{
+    let size = size.max(1);
+    let lines = (octets.len() / size).min(n as usize);
+    for chunk in octets[..lines * size].chunks_exact(size) {
+        write_line(out, chunk)?;
     }
     Ok(())
+}
+
+// Prints the digits of octets, and a line end behind them.
+pub fn print_line(rt: &impl Print, octets: &[u8]) -> io::Result<()> {
+    write_line(&mut io::writer(rt), octets)
+}
+
+// Prints the first n chunks of so many octets, a line each, as `write_lines` does.
+pub fn print_lines(rt: &impl Print, octets: &[u8], size: usize, n: u64) -> io::Result<()> {
+    write_lines(&mut io::writer(rt), octets, size, n)
 }
