@@ -1,6 +1,8 @@
 // Reads the octets of a message from standard input, with no mask lent, and says in words what it holds, or why it is refused.
 #![tactic(auto)]
 
+ghost use Rattle.std.specs.Prelude.{◌≤◌};
+
 mod amount;
 mod names;
 mod words;
@@ -90,7 +92,9 @@ fn describe_header(rt: &impl Print, r: Record) -> io::Result<()> {
 }
 
 // The multiplier that a field says: 0 to 3 mean 1 to 4; the 255 of a system that has none gives 1.
-fn multiplier(field: u8) -> u8 {
+fn multiplier(field: u8) -> u8
+    ensures { result ≤ 4 }
+{
     if field > 3 { 1 } else { field + 1 }
 }
 

@@ -5,7 +5,7 @@
 // numbers do, are LENGTH, as is a message that is not 1 to 32 pages of 53 octets.
 #![tactic(auto)]
 
-ghost use Rattle.std.specs.Prelude.{◌≡◌};
+ghost use Rattle.std.specs.Prelude.{◌≡◌, ◌+◌, IfOk, slice_index, take, drop};
 ghost use Rattle.pagecode.specs.Encode.{encode_answer};
 ghost use Rattle.encode.specs.Pages.{pages_answer};
 
@@ -60,7 +60,9 @@ impl Message<'_> {
 }
 
 // The message of the input and the page numbers asked for; LENGTH if there is none, or the input ends before they do.
-fn parse(input: &[u8]) -> Result<(Message<'_>, &[u8]), Refusal> {
+fn parse(input: &[u8]) -> Result<(Message<'_>, &[u8]), Refusal>
+    ensures { let count = slice_index input.now 2 in IfOk result (λ parsed. (parsed.1.now ≡ take count (drop 3 input.now)) × (parsed.0.octets.now ≡ drop (3 + count) input.now)) }
+{
     let (header, behind) = input.split_first_chunk().ok_or(Refusal::Length)?;
     let [status, number, count]: [u8; HEADER_OCTETS] = *header;
     let (pages, octets) = behind

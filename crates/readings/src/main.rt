@@ -2,6 +2,8 @@
 // every refusal of the reader with its place, cut messages, lent masks.
 #![tactic(auto)]
 
+ghost use Rattle.std.specs.Prelude.{◌≡◌, take, drop};
+
 mod script;
 
 use mt1::RefusalAt;
@@ -28,7 +30,9 @@ const FULL: usize = 1347;
 const NONE: Window = Window(0, 0);
 
 // What a window shows of the data, as far as there are data.
-fn show(data: &[u8], window: Window) -> &[u8] {
+fn show(data: &[u8], window: Window) -> &[u8]
+    ensures { result.now ≡ take window.1 (drop window.0 data.now) }
+{
     let start = window.0.min(data.len());
     let behind = &data[start..];
     &behind[..window.1.min(behind.len())]

@@ -1,4 +1,4 @@
-// Octets from standard input, as the programs read them, and the digest of octets that they print.
+// Octets to standard output and from standard input, as programs print and read them, and the digest of octets that they print.
 #![tactic(auto)]
 
 ghost use Rattle.std.specs.Prelude.{◌≡◌, ◌+◌, ◌*◌, ◌%◌, ◌≤◌, length, IfOk};
@@ -7,6 +7,21 @@ ghost use Rattle.std.specs.Io.{ReadsAtMost};
 
 use std::io;
 use std::io::Read;
+
+// All of the octets.
+pub fn write_all(rt: &impl Print, octets: &[u8]) -> io::Result<()> {
+    rt.write_all(octets)
+}
+
+// The number in decimal, with no line end.
+pub fn print_decimal(rt: &impl Print, n: u64) -> io::Result<()> {
+    rt.print(n)
+}
+
+// The number in lower-case hex, with noughts in front up to so many digits, and with no line end.
+pub fn print_hex(rt: &impl Print, n: u64, digits: usize) -> io::Result<()> {
+    print!(rt; "{n:0digits$x}")
+}
 
 // Reads until the buffer is full or the input ends, and returns how many octets it put at the start of the buffer.
 pub fn read_full(rt: &impl Input, buf: &mut [u8]) -> io::Result<usize>
