@@ -15,7 +15,7 @@ const PAGE_OCTETS: usize = 53;
 
 const RECORD_OCTETS: usize = 16;
 
-// Prints octets in hexadecimal, on a line. No `hex_text::print_line`: that has capital digits.
+// Prints octets in hexadecimal, on a line. No `hex_text::write_line`: that has capital digits.
 fn print_octets(rt: &impl Print, octets: &[u8]) -> io::Result<()> {
     for octet in octets {
         print!(rt; "{octet:02x}")?;

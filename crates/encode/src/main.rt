@@ -52,7 +52,7 @@ impl Message<'_> {
         let mut octets = [0u8; PAGE_OCTETS];
         for &page in pages {
             if self.encode(page, &mut octets).is_ok() {
-                hex_text::print_line(rt, &octets)?;
+                hex_text::write_line(&mut io::writer(rt), &octets)?;
             }
         }
         Ok(())

@@ -71,13 +71,3 @@ pub fn write_lines<W: io::Write>(out: &mut W, octets: &[u8], size: usize, n: u64
     }
     Ok(())
 }
-
-// Prints the digits of octets, and a line end behind them.
-pub fn print_line(rt: &impl Print, octets: &[u8]) -> io::Result<()> {
-    write_line(&mut io::writer(rt), octets)
-}
-
-// Prints the first n chunks of so many octets, a line each, as `write_lines` does.
-pub fn print_lines(rt: &impl Print, octets: &[u8], size: usize, n: u64) -> io::Result<()> {
-    write_lines(&mut io::writer(rt), octets, size, n)
-}

@@ -12,7 +12,7 @@ const RECORD_OCTETS: usize = 16;
 
 // The first n records, a line each.
 fn print_records(rt: &impl Print, records: &[u8], n: u64) -> io::Result<()> {
-    hex_text::print_lines(rt, records, RECORD_OCTETS, n)
+    hex_text::write_lines(&mut io::writer(rt), records, RECORD_OCTETS, n)
 }
 
 // The refusal's number, and its bit place.

@@ -22,7 +22,10 @@ fn print_ready(
         status_of(page),
         number_of(page)
     )?;
-    hex_text::print_line(rt, &message[..size as usize * CONTENT_OCTETS])
+    hex_text::write_line(
+        &mut io::writer(rt),
+        &message[..size as usize * CONTENT_OCTETS],
+    )
 }
 
 // The answer to the page of an entry, which may have made a message whole.

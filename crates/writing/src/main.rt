@@ -54,7 +54,7 @@ fn main(rt: HostRuntime) -> io::Result<()> {
     let octets = handed(&rt, n)?;
     let mut message = [0u8; MESSAGE_OCTETS];
     match writer::write(&input[..octets], 0, &[], &mut message) {
-        Ok(size) => hex_text::print_lines(&rt, &message, PAGE_OCTETS, size),
+        Ok(size) => hex_text::write_lines(&mut io::writer(&rt), &message, PAGE_OCTETS, size),
         Err(why) => println!(rt; "REFUSED {}", refusal::number(why)),
     }
 }
