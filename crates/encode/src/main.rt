@@ -61,7 +61,8 @@ impl Message<'_> {
 
 // The message of the input and the page numbers asked for; LENGTH if there is none, or the input ends before they do.
 fn parse(input: &[u8]) -> Result<(Message<'_>, &[u8]), Refusal>
-    ensures { let count = slice_index input.now 2 in IfOk result (λ parsed. (parsed.1.now ≡ take count (drop 3 input.now)) × (parsed.0.octets.now ≡ drop (3 + count) input.now)) }
+    ensures message { IfOk result (λ parsed. (parsed.0.status ≡ slice_index input.now 0) × (parsed.0.number ≡ slice_index input.now 1) × (parsed.0.octets.now ≡ drop (3 + slice_index input.now 2) input.now)) }
+    ensures pages { IfOk result (λ parsed. parsed.1.now ≡ take (slice_index input.now 2) (drop 3 input.now)) }
 {
     let (header, behind) = input.split_first_chunk().ok_or(Refusal::Length)?;
     let [status, number, count]: [u8; HEADER_OCTETS] = *header;
